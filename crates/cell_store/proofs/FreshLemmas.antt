@@ -1,10 +1,10 @@
 -- Older terms stay older.
-use Rattle.std.proofs.Common.{◌≡◌, ◌⊎◌, inl, inr, ℕ, ◌<◌, ◌≤◌, Bool, true, false, cond, ◌==◌, List, [], ◌∷◌, ◌++◌, Option, Some, None, refl, sym, ap, ◌∙◌, subst, arith}
+use Rattle.std.proofs.Common.{◌≡◌, ◌⊎◌, inl, inr, ℕ, ◌<◌, ◌≤◌, Bool, true, false, cond, ◌==◌, List, [], ◌∷◌, ◌++◌, Option, Some, None, IfSome, refl, sym, ap, ◌∙◌, subst, arith}
 use Rattle.std.proofs.lemmas.Bool.Decides.{nat_tests}
 use Rattle.au_term.specs.Term.{Term, VarTerm, Compound as CompoundTerm, Terms, end, more, var_bound, all_bound}
 use Rattle.au_term.proofs.LogicLemmas.{true_false}
 use Rattle.au_model.specs.Terms.Each.{Each}
-use Rattle.au_model.proofs.EachLemmas.{each-append}
+use Rattle.au_model.proofs.EachLemmas.{each-append, each-more}
 use Rattle.au_model.specs.Terms.Substitutions.{apply, resolve, only, occurs}
 use Rattle.au_model.specs.Terms.Unifier.{Equations, Clash, Opened, Replaced, rule, variable_rule, pairs}
 use Rattle.au_model.specs.Terms.EquationsInTurn.{resolved_equations}
@@ -12,7 +12,7 @@ use Rattle.au_model.proofs.UnifierRuleLemmas.{Says, rule_says}
 use Rattle.binding_array.specs.declared.cell.BindingCell.{BindingCell}
 use Rattle.binding_array.specs.declared.cell.BindingCell.TheVariants.{Free, Var, Int, Atom, Compound}
 use Rattle.binding_array.specs.Represented.{IsFalling}
-use Rattle.cell_store.specs.FreshVariables.{IsOlder, is_fresh, fresh_after, StaysOlder}
+use Rattle.cell_store.specs.FreshVariables.{AreYoung, IsOlder, is_fresh, fresh_after, StaysOlder}
 use Rattle.cell_store.specs.Values.{IsNoVariable}
 use Rattle.cell_store.specs.StoreView.{StoreView, substitution, meaning, text_in, with_substitution, BindsFurther, IsUnbound, IsValueIn}
 use Rattle.cell_store.specs.UnificationSteps.{equations_in, pending_equations, FollowsRule, after_same, after_binding, after_opening, IsBoundOr}
@@ -73,6 +73,23 @@ left_stays old new from to x (Var v) outcome n e h = absurd n
 left_stays old new from to x (Int z) outcome n e h = subst (StaysOlder old new from) (sym e) (right_stays old new from x (meaning old (Int z)) outcome (no_variables from (meaning old (Int z)) refl) h)
 left_stays old new from to x (Atom a) outcome n e h = subst (StaysOlder old new from) (sym e) (right_stays old new from x (meaning old (Atom a)) outcome (no_variables from (meaning old (Atom a)) refl) h)
 left_stays old new from to x (Compound at base) outcome n e h = subst (StaysOlder old new from) (sym e) (ended_stays old new from)
+
+-- what is young stays so
+pub young_stays : (old new : StoreView) (from to : Option ℕ) → new ≡ with_substitution (substitution new) old → (to ≡ from) ⊎ (to ≡ None) → AreYoung old from → AreYoung new to
+young_stays old new from to k (inl e) y = subst (AreYoung new) (sym e) (by_first from y)
+  where
+    by_first : (o : Option ℕ) → AreYoung old o → AreYoung new o
+    by_first None y = tt
+    by_first (Some base) y = subst (λ (st : StoreView). Each (λ m. m.next ≤ base) st.marks) (sym k) y
+young_stays old new from to k (inr e) y = subst (AreYoung new) (sym e) tt
+
+pub fresh_young : (st : StoreView) (x : ℕ) (fresh : Option ℕ) → AreYoung st fresh → is_fresh x fresh ≡ true → Each (λ m. m.next ≤ x) st.marks
+fresh_young st x None y f = absurd (true_false (sym f))
+fresh_young st x (Some base) y f = let le : base ≤ x = grind (arith, nat_tests) in each-more (λ m. m.next ≤ base) (λ m. m.next ≤ x) (λ m l. omega (arith, l, le)) st.marks y
+
+pub first_older_than : (o : Option ℕ) (base : ℕ) (t : Term) → IfSome o (λ n. n ≡ base) → var_bound t ≤ base → IsOlder o t
+first_older_than None base t e l = tt
+first_older_than (Some n) base t e l = omega (arith, e, l)
 
 -- the equations that are left, with the older side on the left
 abbrev pub AllOlder : Option ℕ → Equations → Type 0

@@ -4,13 +4,13 @@ use Rattle.au_term.specs.Term.{Term}
 use Rattle.au_model.specs.Terms.Unifier.{Equations, Clash, rule, unifier}
 use Rattle.binding_array.specs.declared.cell.BindingCell.{BindingCell}
 use Rattle.cell_store.specs.Arguments.{argument_meaning}
-use Rattle.cell_store.specs.FreshVariables.{IsOlder, StaysOlder}
+use Rattle.cell_store.specs.FreshVariables.{AreYoung, IsOlder, StaysOlder}
 use Rattle.cell_store.specs.StoreView.{StoreView, substitution, meaning, text_in, with_substitution}
 use Rattle.cell_store.specs.UnificationSteps.{AllEquations, FollowsRule, KeepsRestEquations, AreUnified}
 use Rattle.cell_store.specs.declared.arguments.Equations.{Equations as ArgumentEquations}
 use Rattle.cell_store.proofs.RuleLemmas.{other_equations}
 use Rattle.cell_store.proofs.UnificationLemmas.{Unifying, left_work, left_in, first_is, first_follows, first_clashes, start_follows, ended, unified}
-use Rattle.cell_store.proofs.FreshLemmas.{AllOlder, older_follows}
+use Rattle.cell_store.proofs.FreshLemmas.{AllOlder, older_follows, young_stays}
 
 abbrev pub whole : BindingCell → BindingCell → StoreView → Equations
 whole a b first = (meaning first a, meaning first b) ∷ []
@@ -20,16 +20,17 @@ pub record IsSolving (a b : BindingCell) (first now : StoreView) (fresh : Option
   pub unifying : Unifying (whole a b first) (substitution first) (substitution now) (left_in now es)
   pub there : AllEquations (text_in now) now.now.next es
   pub older : AllOlder fresh (left_in now es)
+  pub young : AreYoung now fresh
   pub others : now ≡ with_substitution (substitution now) first
 
 abbrev pub solving_work : BindingCell → BindingCell → StoreView → StoreView → List ArgumentEquations → ℕ
 solving_work a b first now es = left_work (whole a b first) (left_in now es)
 
 -- the rule for the two values
-pub starts : (a b : BindingCell) (first new : StoreView) (from to : Option ℕ) (opened : List ArgumentEquations) → IsOlder from (meaning first a) → FollowsRule first new (meaning first a) (meaning first b) opened → new ≡ with_substitution (substitution new) first → StaysOlder first new from to → IsSolving a b first new to (opened ++ [])
-starts a b first new from to opened o f k s =
+pub starts : (a b : BindingCell) (first new : StoreView) (from to : Option ℕ) (opened : List ArgumentEquations) → IsOlder from (meaning first a) → AreYoung first from → FollowsRule first new (meaning first a) (meaning first b) opened → new ≡ with_substitution (substitution new) first → StaysOlder first new from to → IsSolving a b first new to (opened ++ [])
+starts a b first new from to opened o y f k s =
     let h = start_follows first new (meaning first a) (meaning first b) opened f in
-    record { unifying = h.unifying; there = h.there; older = older_follows from to first new (meaning first a) (meaning first b) [] opened (o, tt) k f s; others = h.others }
+    record { unifying = h.unifying; there = h.there; older = older_follows from to first new (meaning first a) (meaning first b) [] opened (o, tt) k f s; young = young_stays first new from to k s.still y; others = h.others }
 
 module _ (a b : BindingCell) (first st : StoreView) (from : Option ℕ) (e : ArgumentEquations) (waiting : List ArgumentEquations) (h : IsSolving a b first st from (e ∷ waiting)) where
   abbrev left : Term
@@ -52,7 +53,7 @@ module _ (a b : BindingCell) (first st : StoreView) (from : Option ℕ) (e : Arg
   goes_on others kept new to opened f k s =
       let g = first_follows (whole a b first) first st waiting others e h.unifying h.there kept h.others new opened f in
       let older = subst (AllOlder from) (first_is (whole a b first) first st waiting others e h.unifying h.there kept) h.older in
-      (record { unifying = g.unifying; there = g.there; older = older_follows from to st new left right others opened older k f s; others = g.others }, g.less)
+      (record { unifying = g.unifying; there = g.there; older = older_follows from to st new left right others opened older k f s; young = young_stays st new from to k s.still h.young; others = g.others }, g.less)
 
 -- none is left
 pub solved : (a b : BindingCell) (first now : StoreView) (fresh : Option ℕ) → IsSolving a b first now fresh [] → AreUnified a b first now

@@ -155,6 +155,15 @@ module _ (h : HeapView) (cs : List BindingCell) (t : List ℕ) (ms : List Mark) 
   pub younger_view : (n : ℕ) → n ≤ v → Each (λ m. m.variables ≤ n) ms → BindsFurther (view_of (parts h cs t ms)) (view_of (parts h ds t ms)) ((v, meaning (view_of (parts h cs t ms)) c) ∷ [])
   younger_view n le e = further t (still_moments h cs ds t t ms ms Seen younger ms (all_seen n le e))
 
+-- how many variables there were at marks
+pub marks_below : (p : Parts) (n : ℕ) (ms : List Mark) → Each (IsWithin p) ms → Each (λ m. m.next ≤ n) (map (moment_at p) ms) → Each (λ m. m.variables ≤ n) ms
+marks_below p n [] w h = tt
+marks_below p n (m ∷ ms) w h = (omega (arith, h.0, length-undone m p.trail p.cells w.0.older.variables), marks_below p n ms w.1 h.1)
+
+pub moments_below : (p : Parts) (n : ℕ) (ms : List Mark) → Each (IsWithin p) ms → Each (λ m. m.variables ≤ n) ms → Each (λ m. m.next ≤ n) (map (moment_at p) ms)
+moments_below p n [] w h = tt
+moments_below p n (m ∷ ms) w h = (omega (arith, h.0, length-undone m p.trail p.cells w.0.older.variables), moments_below p n ms w.1 h.1)
+
 -- a mark
 module _ (h : HeapView) (cs : List BindingCell) (t : List ℕ) (ms : List Mark) (m : Mark) (k : IsConsistent (parts h cs t ms)) (is : m ≡ mark_now (parts h cs t ms)) where
   abbrev p : Parts

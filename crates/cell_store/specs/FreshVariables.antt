@@ -1,6 +1,7 @@
 -- The variables of a clause whose head is unified: while older terms have none of them, such a variable is in none of those.
 use Rattle.std.specs.Prelude.{◌≡◌, ◌⊎◌, ℕ, ◌≤◌, Bool, false, nat_le, Option, Some, None}
 use Rattle.au_term.specs.Term.{Term, var_bound}
+use Rattle.au_model.specs.Terms.Each.{Each}
 use Rattle.au_model.specs.Terms.Substitutions.{resolve}
 use Rattle.binding_array.specs.declared.cell.BindingCell.{BindingCell}
 use Rattle.binding_array.specs.declared.cell.BindingCell.TheVariants.{Free, Var, Int, Atom, Compound}
@@ -15,6 +16,11 @@ IsOlder (Some base) t = var_bound t ≤ base
 abbrev pub is_fresh : ℕ → Option ℕ → Bool
 is_fresh x None = false
 is_fresh x (Some base) = nat_le base x
+
+-- the variables of the clause of which this is the first one came after all marks
+abbrev pub AreYoung : StoreView → Option ℕ → Type 0
+AreYoung st None = Unit {0}
+AreYoung st (Some base) = Each (λ m. m.next ≤ base) st.marks
 
 -- once an older variable is bound to a compound, the clause's variables are no longer fresh
 abbrev pub fresh_after : Option ℕ → BindingCell → Option ℕ

@@ -10,7 +10,7 @@ ghost use Rattle.clause_compile.specs.Places.{IsPlaceOf, meaning_in};
 ghost use Rattle.cell_store.specs.Arguments.{HasFunctor, IsArgument, IsArgumentValue, argument_at, code_place};
 ghost use Rattle.cell_store.specs.ArgumentSteps.{IsCompoundPlace, IsFreshPlace, IsReached};
 ghost use Rattle.cell_store.specs.Undoing.{AreNested, freed};
-ghost use Rattle.cell_store.specs.FreshVariables.{IsOlder};
+ghost use Rattle.cell_store.specs.FreshVariables.{AreYoung, IsOlder};
 ghost use Rattle.cell_store.specs.MadeBindings.{AreMadeSince};
 ghost use Rattle.cell_store.specs.UnificationSteps.{IsUnified, OnlyBinds};
 ghost use Rattle.cell_store.specs.StoreView.{Moment, IsValidStore, IsValueIn, IsDereferenced, CanBeBound, BindsFurther, AddsText, meaning, substitution, text_in, value_term, new_store, with_numbers, with_mark, with_marks, taken_back};
@@ -279,6 +279,16 @@ impl Store {
         self.walked = walked;
     }
 
+    /// Binds a free variable that came after all marks, so that its cell is cut off where one is gone back to.
+    #[inline(always)]
+    pub(crate) fn bind_young(&mut self, variable: u32, value: BindingCell)
+        requires can { CanBeBound self.old variable value }
+        requires young { Each (λ m. m.next ≤ variable) self.old.marks }
+        ensures { BindsFurther self.old self.new ((variable, meaning self.old value) ∷ []) }
+    {
+        self.cells.bind(variable, value);
+    }
+
     /// Makes two values one by further bindings, or answers that none do. Where none do, or out of memory, some bindings may
     /// be left: the store can be taken back to a mark.
     pub fn unify(&mut self, a: BindingCell, b: BindingCell) -> Result<bool, NoMemory>
@@ -306,7 +316,20 @@ impl Store {
         ensures unified { IfOk result (IsUnified goal head self.old self.new) }
         ensures kept { OnlyBinds self.old self.new }
     {
-        self.unify_from(goal, head, Some(base))
+        self.unify_from(goal, head, self.if_young(base))
+    }
+
+    /// The first variable of a clause, where the clause's variables came after all marks.
+    #[inline(always)]
+    fn if_young(&self, base: u32) -> Option<u32>
+        ensures young { AreYoung self.now result }
+        ensures same { IfSome result (λ first. first ≡ base) }
+    {
+        if protected(&self.marks) <= base as usize {
+            Some(base)
+        } else {
+            None
+        }
     }
 
     /// The same, where with a number it is of a head.
@@ -320,6 +343,7 @@ impl Store {
         requires left { IsValueIn self.old a }
         requires right { IsValueIn self.old b }
         requires older { IsOlder fresh (meaning self.old a) }
+        requires young { AreYoung self.old fresh }
         ensures unified { IfOk result (IsUnified a b self.old self.new) }
         ensures kept { OnlyBinds self.old self.new }
     {

@@ -5,7 +5,7 @@ ghost use Rattle.std.specs.Cmp.Lexicographic.{pointwise};
 ghost use Rattle.au_term.specs.Term.{VarTerm};
 ghost use Rattle.au_model.specs.Terms.Substitutions.{occurs, value_of};
 ghost use Rattle.clause_compile.specs.AtomNumbers.{name_at};
-ghost use Rattle.cell_store.specs.FreshVariables.{IsOlder, StaysOlder, fresh_after, is_fresh};
+ghost use Rattle.cell_store.specs.FreshVariables.{AreYoung, IsOlder, StaysOlder, fresh_after, is_fresh};
 ghost use Rattle.cell_store.specs.Values.{IsNoVariable};
 ghost use Rattle.cell_store.specs.StoreView.{IsUnbound, IsValueIn, compound_meaning, meaning, substitution, text_in};
 ghost use Rattle.cell_store.specs.UnificationSteps.{IsUnified, OnlyBinds, FollowsRule, TakesRule, IsBoundOr, KeepsRestEquations, solved_if};
@@ -29,7 +29,7 @@ pub(crate) enum Outcome {
 
 /// Makes two values one by further bindings, or answers that none do. Where the second is the head of a clause and the
 /// first one older than the clause, `fresh` is the clause's first variable: such a variable is bound to what is older
-/// without the search for it there. The list takes the equations that wait behind those that are gone through.
+/// without the search for it there, and not put on the trail. The list takes the equations that wait behind those that are gone through.
 pub(crate) fn unify(
     a: BindingCell,
     b: BindingCell,
@@ -40,6 +40,7 @@ pub(crate) fn unify(
     requires left { IsValueIn store.old a }
     requires right { IsValueIn store.old b }
     requires older { IsOlder fresh (meaning store.old a) }
+    requires young { AreYoung store.old fresh }
     ensures unified { IfOk result (IsUnified a b store.old store.new) }
     ensures kept { OnlyBinds store.old store.new }
 {
@@ -100,6 +101,7 @@ fn arguments_go(
     requires left { IsArgument (text_in store.old) store.old.now.next left.base left.at }
     requires right { IsArgument (text_in store.old) store.old.now.next right.base right.at }
     requires older { IsOlder fresh.old (argument_meaning store.old left.base left.at) }
+    requires young { AreYoung store.old fresh.old }
     ensures goes { IfOk result (TakesRule store.old store.new (argument_meaning store.old left.base left.at) (argument_meaning store.old right.base right.at)) }
     ensures stays { OnOk result (StaysOlder store.old store.new fresh.old fresh.new) }
     ensures kept { OnlyBinds store.old store.new }
@@ -108,7 +110,7 @@ fn arguments_go(
     let place = store.argument_place(right.at, right.base);
     if let Some(variable) = store.fresh_variable(place, right.base, *fresh) {
         let value = store.reached(left.at, left.base);
-        store.bind(variable, value)?;
+        store.bind_young(variable, value);
         return Ok(Outcome::Solved);
     }
     let value = store.reached(left.at, left.base);
@@ -145,7 +147,7 @@ fn compound_goes(
 }
 
 /// Goes by the rule for an equation.
-#[inline(never)]
+#[inline(always)]
 fn pair_goes(
     left: BindingCell,
     right: BindingCell,

@@ -17,7 +17,7 @@ returns-in-Solved-clause-unified c =
     let st = c.args.store.now in
     let new = c.first_goes.new.store in
     let follows = subst (TakesRule st new (meaning st c.args.a) (meaning st c.args.b)) c.in-Solved.is c.in_ok-first_goes.ensures.goes in
-    solved c.args.a c.args.b st new c.first_goes.new.fresh (starts c.args.a c.args.b st new c.args.fresh c.first_goes.new.fresh [] c.requires.older follows c.in_ok-first_goes.ensures.kept.others c.in_ok-first_goes.ensures.stays)
+    solved c.args.a c.args.b st new c.first_goes.new.fresh (starts c.args.a c.args.b st new c.args.fresh c.first_goes.new.fresh [] c.requires.older c.requires.young follows c.in_ok-first_goes.ensures.kept.others c.in_ok-first_goes.ensures.stays)
 
 pub loop-pending-init : goal.loop-pending-init
 loop-pending-init c =
@@ -25,7 +25,7 @@ loop-pending-init c =
     let new = c.first_goes.new.store in
     let e = c.in-Inside.equations in
     let follows = subst (TakesRule st new (meaning st c.args.a) (meaning st c.args.b)) c.in-Inside.is c.in_ok-first_goes.ensures.goes in
-    let h = starts c.args.a c.args.b st new c.args.fresh c.first_goes.new.fresh (e ∷ []) c.requires.older follows c.in_ok-first_goes.ensures.kept.others c.in_ok-first_goes.ensures.stays in
+    let h = starts c.args.a c.args.b st new c.args.fresh c.first_goes.new.fresh (e ∷ []) c.requires.older c.requires.young follows c.in_ok-first_goes.ensures.kept.others c.in_ok-first_goes.ensures.stays in
     subst (λ es. IsSolving c.args.a c.args.b st new c.first_goes.new.fresh (e ∷ reverse es)) (sym c.clear.ensures.items) h
 
 pub arguments_go-requires-clause-left : goal.arguments_go-requires-clause-left
