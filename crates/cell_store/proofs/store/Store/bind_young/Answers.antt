@@ -1,4 +1,4 @@
-use Rattle.std.proofs.Common.{◌≡◌, ◌≤◌, ◌∷◌, [], slice_set, sym, subst, arith}
+use Rattle.std.proofs.Common.{◌≤◌, ◌∷◌, [], sym, subst, arith}
 use Rattle.au_model.specs.Terms.Each.{Each}
 use Rattle.cell_store.specs.StoreView.{CanBeBound, BindsFurther, IsConsistent, meaning, view_of}
 use Rattle.cell_store.proofs.StoreLemmas.{parts, unbound_cell, marks_below, younger_parts, younger_view}
