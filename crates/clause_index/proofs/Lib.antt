@@ -4,3 +4,4 @@ pub mod ChainLemmas
 pub mod HeadKeyLemmas
 pub mod PlaceLemmas
 pub mod NamedLemmas
+pub mod OnlyLemmas

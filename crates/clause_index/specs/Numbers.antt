@@ -14,3 +14,9 @@ numbers p heads = head_numbers_from 0 p heads
 abbrev pub first_from : ℕ → (HeadKey → Bool) → List HeadKey → Option ℕ
 first_from i p [] = None
 first_from i p (h ∷ hs) = cond (p h) (Some i) (first_from (suc i) p hs)
+
+-- the number in a list of one
+abbrev pub only_of : List ℕ → Option ℕ
+only_of [] = None
+only_of (n ∷ []) = Some n
+only_of (n ∷ m ∷ ns) = None

@@ -2,7 +2,7 @@
 ghost use Rattle.std.specs.Prelude.{◌≡◌, ◌<◌, ◌∷◌, [], IfOk, IfSome, OnOk, MatchOption, Some, None, false, length, slice_get, slice_set};
 ghost use Rattle.std.specs.List.{list_any};
 ghost use Rattle.clause_index.specs.Classes.{is_of, is_head_of, can_match, procedure_class, key_class};
-ghost use Rattle.clause_index.specs.Numbers.{first_from, numbers};
+ghost use Rattle.clause_index.specs.Numbers.{first_from, numbers, only_of};
 ghost use Rattle.clause_index.specs.Cursors.{IsCursorOf, IsNumberBelow, chain, numbers_left, TakesLeast};
 ghost use Rattle.clause_index.specs.declared.cursor.Cursor.{Cursor as CursorValue};
 ghost use Rattle.clause_index.specs.Chains.{IsChained, AreFirstsOf, AreNamedFirsts, HasKeyed, is_one_of_two, LearnsKey, KnowKeysOf, LearnKeyOf};
@@ -129,7 +129,7 @@ impl ClauseIndex {
     }
 
     /// Whether a clause's head has this name and number of arguments.
-    #[inline]
+    #[inline(always)]
     pub fn is_defined(&self, name: u32, arity: u32) -> bool
         ensures { result ≡ list_any (is_head_of name arity) self.now }
     {
@@ -138,7 +138,7 @@ impl ClauseIndex {
 
     /// The clauses that a goal with this name, number of arguments and first key may match. A goal whose first argument is a
     /// variable, or that has none, has no key.
-    #[inline]
+    #[inline(always)]
     pub fn candidates(&self, name: u32, arity: u32, key: Option<NumberKey>) -> Cursor
         ensures numbers { numbers_left self.now result ≡ numbers (can_match name arity key) self.now }
         ensures cursor { IsCursorOf self.now result }
@@ -149,6 +149,44 @@ impl ClauseIndex {
                 self.first_without_key(name, arity),
                 self.first_with_key(name, arity, key),
             ),
+        }
+    }
+
+    /// The clause that such a goal may match, where that is one alone.
+    #[inline(always)]
+    pub fn only_candidate(&self, name: u32, arity: u32, key: Option<NumberKey>) -> Option<u32>
+        ensures { result ≡ only_of (numbers (can_match name arity key) self.now) }
+    {
+        match self.candidates(name, arity, key) {
+            Cursor::All(Some(number)) => self.alone_in_procedure(number),
+            Cursor::ByKey(Some(number), None) => self.alone_in_class(number),
+            Cursor::ByKey(None, Some(number)) => self.alone_in_class(number),
+            Cursor::ByKey(Some(_left), Some(_right)) => None,
+            Cursor::All(None) | Cursor::ByKey(None, None) => None,
+        }
+    }
+
+    /// A clause, if it is the last of its procedure.
+    #[inline(always)]
+    fn alone_in_procedure(&self, number: u32) -> Option<u32>
+        requires { number < length self.now }
+        ensures { result ≡ only_of (chain procedure_class self.now (Some number)) }
+    {
+        match self.next_in_procedure(number) {
+            Some(_) => None,
+            None => Some(number),
+        }
+    }
+
+    /// A clause, if it is the last of its class.
+    #[inline(always)]
+    fn alone_in_class(&self, number: u32) -> Option<u32>
+        requires { number < length self.now }
+        ensures { result ≡ only_of (chain key_class self.now (Some number)) }
+    {
+        match self.next_in_class(number) {
+            Some(_) => None,
+            None => Some(number),
         }
     }
 
@@ -216,7 +254,7 @@ impl ClauseIndex {
     }
 
     /// The first clause of a procedure.
-    #[inline]
+    #[inline(always)]
     fn first_of_procedure(&self, name: u32, arity: u32) -> Option<u32>
         ensures { result ≡ first_from 0 (is_of (Class.Procedure name arity)) self.now }
     {
@@ -227,7 +265,7 @@ impl ClauseIndex {
     }
 
     /// The first clause of a procedure whose head has no first key.
-    #[inline]
+    #[inline(always)]
     fn first_without_key(&self, name: u32, arity: u32) -> Option<u32>
         ensures { result ≡ first_from 0 (is_of (Class.WithoutKey name arity)) self.now }
     {
@@ -238,7 +276,7 @@ impl ClauseIndex {
     }
 
     /// The first clause of a procedure whose head has a key.
-    #[inline]
+    #[inline(always)]
     fn first_with_key(&self, name: u32, arity: u32, key: NumberKey) -> Option<u32>
         ensures { result ≡ first_from 0 (is_of (Class.WithKey name arity key)) self.now }
     {
@@ -253,6 +291,7 @@ impl ClauseIndex {
     }
 
     /// The first clause of a class.
+    #[inline(never)]
     fn first(&self, class: Class) -> Option<u32>
         ensures { result ≡ first_from 0 (is_of class) self.now }
     {
