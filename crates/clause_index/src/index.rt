@@ -155,7 +155,8 @@ impl ClauseIndex {
     /// The clause that such a goal may match, where that is one alone.
     #[inline(always)]
     pub fn only_candidate(&self, name: u32, arity: u32, key: Option<NumberKey>) -> Option<u32>
-        ensures { result ≡ only_of (numbers (can_match name arity key) self.now) }
+        ensures only { result ≡ only_of (numbers (can_match name arity key) self.now) }
+        ensures there { IfSome result (λ number. number < length self.now) }
     {
         match self.candidates(name, arity, key) {
             Cursor::All(Some(number)) => self.alone_in_procedure(number),
@@ -170,7 +171,8 @@ impl ClauseIndex {
     #[inline(always)]
     fn alone_in_procedure(&self, number: u32) -> Option<u32>
         requires { number < length self.now }
-        ensures { result ≡ only_of (chain procedure_class self.now (Some number)) }
+        ensures only { result ≡ only_of (chain procedure_class self.now (Some number)) }
+        ensures there { IfSome result (λ number. number < length self.now) }
     {
         match self.next_in_procedure(number) {
             Some(_) => None,
@@ -182,7 +184,8 @@ impl ClauseIndex {
     #[inline(always)]
     fn alone_in_class(&self, number: u32) -> Option<u32>
         requires { number < length self.now }
-        ensures { result ≡ only_of (chain key_class self.now (Some number)) }
+        ensures only { result ≡ only_of (chain key_class self.now (Some number)) }
+        ensures there { IfSome result (λ number. number < length self.now) }
     {
         match self.next_in_class(number) {
             Some(_) => None,

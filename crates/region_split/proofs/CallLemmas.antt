@@ -11,7 +11,7 @@ use Rattle.clause_index.specs.declared.cursor.Cursor.{Cursor}
 use Rattle.binding_array.specs.declared.cell.BindingCell.{BindingCell}
 use Rattle.cell_store.specs.StoreView.{StoreView, text_in, meaning, with_mark}
 use Rattle.region_split.specs.ChoicePoints.{Standing, alternative_entries, continuation_at, height_of_cut}
-use Rattle.region_split.specs.Candidates.{entries_of_clauses, AreCandidates, FindsClause, HaveNoEntry}
+use Rattle.region_split.specs.Candidates.{entries_of_clauses, AreCandidates, IsOnlyCandidate, FindsClause, HaveNoEntry}
 use Rattle.region_split.specs.Regions.{RegionView, left_here, region_setting, entries_of, heights_of, continuation_here, IsPositionIn}
 use Rattle.region_split.specs.StackOperations.{AddsChoice, trial_entries}
 use Rattle.region_split.specs.ClauseTrials.{TriesClause, KeepsChoices, Calls, called_entries, IsOptionalPosition}
@@ -114,6 +114,32 @@ module _ (r : RegionView) (goal : BindingCell) (after : Position) (whole left : 
         text = ap (λ (x : RegionView). x.text) kept.others ∙ ap (λ (x : RegionView). x.text) a.others;
         undefined = λ e. absurd (is_found e);
       }
+
+same_clause : (x y : Clause) → ◌≡◌ {A = Option Clause} (Some x) (Some y) → x ≡ y
+same_clause x y e = cc
+
+-- one clause stands for all
+pub only_called : (r new : RegionView) (goal : BindingCell) (after : Position) (n cut : ℕ) (reached : Option Position) → IsOnlyCandidate r.text (meaning r.store goal) r.store.now.next n
+    → cut ≡ length r.choices → ((named : List NamedTerm) → height_of_cut (heights_of named r) cut ≡ length (entries_of named r))
+    → TriesClause r new (record { goal = goal; clause = n; after = after }) cut reached → KeepsChoices r new → Calls r new goal after reached
+only_called r new goal after n cut reached only count height tried kept = record {
+  entries = λ named.
+      let h = length (entries_of named r) in
+      let f = continuation_here named r after in
+      let there = is_there r.text.clauses n only.there in
+      let same : there.element ≡ tried.clause = same_clause there.element tried.clause (sym there.is ∙ tried.is) in
+      ap (λ es. es ++ entries_of named r)
+      (sym (only.entries h f)
+      ∙ (clause_first r.text (meaning r.store goal) r.store.now.next h f n [] there.element there.first
+      ∙ (append-nil (solution_entry h f (clause_solution (meaning r.store goal) r.store.now.next there.element))
+      ∙ ap (λ c. solution_entry h f (clause_solution (meaning r.store goal) r.store.now.next c)) same)))
+      ∙ ap₂ (λ es fs. es ++ fs)
+      (ap (λ k. solution_entry k f (clause_solution (meaning r.store goal) r.store.now.next tried.clause)) (sym (height named)) ∙ tried.entries named)
+      (ap (λ (st : Standing). st.entries) (sym (kept.stands named)));
+  position = subst (λ i. IsOptionalPosition new i reached) (count ∙ sym (ap (λ (x : RegionView). length x.choices) kept.others)) tried.position;
+  text = ap (λ (x : RegionView). x.text) kept.others;
+  undefined = λ e. absurd (only.defined e);
+}
 
 pub if_ok_then : {X E : Type 0} (P Q : X → Type 0) (r : Result X E) → ((x : X) → P x → Q x) → IfOk r P → IfOk r Q
 if_ok_then P Q (Ok x) f p = f x p

@@ -1,7 +1,8 @@
 -- Clauses that are passed over have no entry.
-use Rattle.std.proofs.Common.{◌≡◌, ℕ, zero, suc, ◌+◌, ◌<◌, ◌≤◌, Bool, true, false, cond, ◌&&◌, ◌||◌, List, [], ◌∷◌, ◌++◌, length, take, drop, Option, Some, None, MatchOption, slice_get, refl, sym, ap, ap₂, ◌∙◌, subst, arith}
+use Rattle.std.proofs.Common.{◌≡◌, ℕ, zero, suc, ◌+◌, ◌<◌, ◌≤◌, Bool, true, false, cond, ◌&&◌, ◌||◌, List, [], ◌∷◌, ◌++◌, length, take, drop, Option, Some, None, MatchOption, IfSome, slice_get, refl, sym, ap, ap₂, ◌∙◌, subst, arith}
 use Rattle.std.specs.List.{list_any}
-use Rattle.au_term.specs.Term.{Term}
+use Rattle.au_term.specs.Term.{Term, argument_count}
+use Rattle.au_model.specs.Terms.Forms.{name_of}
 use Rattle.au_model.specs.Terms.Unifier.{unifier}
 use Rattle.run_model.specs.Programs.Clauses.{Clause, renamed_head, clause_variables, is_defined}
 use Rattle.run_model.specs.Goals.Outcomes.{clause_solution, alternatives_of}
@@ -12,7 +13,7 @@ use Rattle.clause_compile.specs.Places.{CodeView}
 use Rattle.proc_index.specs.Places.{clauses_at}
 use Rattle.clause_index.specs.Classes.{can_match, is_head_of, keys_match}
 use Rattle.clause_index.specs.Cursors.{IsCursorOf, numbers_left, TakesLeast}
-use Rattle.clause_index.specs.Numbers.{head_numbers_from, numbers}
+use Rattle.clause_index.specs.Numbers.{head_numbers_from, numbers, only_of}
 use Rattle.clause_index.specs.HeadKeys.{IsHeadKeyOf}
 use Rattle.clause_index.specs.declared.cursor.Cursor.{Cursor}
 use Rattle.clause_index.specs.declared.key.HeadKey.{HeadKey}
@@ -21,7 +22,7 @@ use Rattle.clause_index.proofs.ChainLemmas.{drop_next}
 use Rattle.clause_index.proofs.HeadKeyLemmas.{numbers_apart}
 use Rattle.cell_store.specs.StoreView.{StoreView, IsValidStore, text_in}
 use Rattle.region_split.specs.Texts.{TextView, AreHeadKeys}
-use Rattle.region_split.specs.Candidates.{entries_of_clauses, AreCandidates, FindsClause, HaveNoEntry, AreToldApart}
+use Rattle.region_split.specs.Candidates.{entries_of_clauses, AreCandidates, IsOnlyCandidate, FindsClause, HaveNoEntry, AreToldApart}
 use Rattle.region_split.proofs.HeadLemmas.{keys_further, renamed_numbers, defined}
 
 -- an entry of a clause that does not unify
@@ -63,21 +64,48 @@ none_left name arity key (h ∷ hs) i e = by_test (is_head_of name arity h) e (�
     by_test true t rest = absurd cc
     by_test false t rest = rest t
 
-pub are_candidates : (text : TextView) (st : StoreView) (goal : Term) (g : HeadKey) (next : ℕ) (left : Cursor) → st.program ≡ text.code → IsValidStore st → IsHeadKeyOf (text_in st).names goal g → AreHeadKeys text.code.names text.clauses text.heads
-    → numbers_left text.heads left ≡ numbers (can_match g.name g.arity g.first) text.heads → IsCursorOf text.heads left → AreCandidates text goal next left
-are_candidates text st goal g next left program valid numbered heads is cursor = record {
-  cursor = cursor;
-  entries = λ h f.
-      ap (entries_of_clauses text goal next h f) is
-      ∙ matching_from (text_in st).names valid.distinct goal g numbered next h f text.clauses text.clauses text.heads 0 refl
-      all;
-  undefined = λ e. is ∙ none_left g.name g.arity g.first text.heads 0
+-- where one number alone is left
+only_is : (ns : List ℕ) (n : ℕ) → only_of ns ≡ Some n → ns ≡ n ∷ []
+only_is [] n e = absurd cc
+only_is (m ∷ []) n e = cc
+only_is (m ∷ k ∷ ns) n e = absurd cc
+
+-- the clauses by the numbers of a goal stand for all
+module _ (text : TextView) (st : StoreView) (goal : Term) (g : HeadKey) (next : ℕ) (program : st.program ≡ text.code) (valid : IsValidStore st) (numbered : IsHeadKeyOf (text_in st).names goal g) (heads : AreHeadKeys text.code.names text.clauses text.heads) where
+  abbrev ns : List ℕ
+  ns = numbers (can_match g.name g.arity g.first) text.heads
+
+  all : AreHeadKeys (text_in st).names text.clauses text.heads
+  all = subst (λ (code : CodeView). AreHeadKeys (code.names ++ st.names) text.clauses text.heads) (sym program) (keys_further text.code.names st.names text.clauses text.heads heads)
+
+  all_entries : (h : ℕ) (f : Continuation ℕ) → entries_of_clauses text goal next h f ns ≡ solution_entries h f (alternatives_of text.clauses goal next)
+  all_entries h f = matching_from (text_in st).names valid.distinct goal g numbered next h f text.clauses text.clauses text.heads 0 refl all
+
+  none_undefined : is_defined text.clauses (name_of goal) (argument_count goal) ≡ false → ns ≡ []
+  none_undefined e =
+      none_left g.name g.arity g.first text.heads 0
       (defined (text_in st).names valid.distinct g.name g.arity numbered.name_there text.clauses text.heads all
-      ∙ (ap₂ (is_defined text.clauses) numbered.name numbered.arity ∙ e));
-}
-  where
-    all : AreHeadKeys (text_in st).names text.clauses text.heads
-    all = subst (λ (code : CodeView). AreHeadKeys (code.names ++ st.names) text.clauses text.heads) (sym program) (keys_further text.code.names st.names text.clauses text.heads heads)
+      ∙ (ap₂ (is_defined text.clauses) numbered.name numbered.arity ∙ e))
+
+  pub are_candidates : (left : Cursor) → numbers_left text.heads left ≡ ns → IsCursorOf text.heads left → AreCandidates text goal next left
+  are_candidates left is cursor = record {
+    cursor = cursor;
+    entries = λ h f. ap (entries_of_clauses text goal next h f) is ∙ all_entries h f;
+    undefined = λ e. is ∙ none_undefined e;
+  }
+
+  is_only : (n : ℕ) → only_of ns ≡ Some n → n < length text.clauses → IsOnlyCandidate text goal next n
+  is_only n e lt =
+      let is = only_is ns n e in
+      record {
+        there = lt;
+        entries = λ h f. ap (entries_of_clauses text goal next h f) (sym is) ∙ all_entries h f;
+        defined = λ u. let none = ap length (sym is ∙ none_undefined u) in omega (arith, none);
+      }
+
+  pub is_only_or_none : (o : Option ℕ) → o ≡ only_of ns → IfSome o (λ n. n < length text.clauses) → IfSome o (IsOnlyCandidate text goal next)
+  is_only_or_none None e lt = tt
+  is_only_or_none (Some n) e lt = is_only n (sym e) lt
 
 -- an element that is there
 pub record IsThere {X : Type 0} (xs : List X) (i : ℕ) : Type 0 where

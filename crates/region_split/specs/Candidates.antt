@@ -24,6 +24,12 @@ pub record AreCandidates (text : TextView) (goal : Term) (next : ℕ) (left : Cu
   pub entries : (height : ℕ) (f : Continuation ℕ) → entries_of_clauses text goal next height f (numbers_left text.heads left) ≡ solution_entries height f (alternatives_of text.clauses goal next)
   pub undefined : is_defined text.clauses (name_of goal) (argument_count goal) ≡ false → numbers_left text.heads left ≡ []
 
+-- a clause stands for all clauses of the text
+pub record IsOnlyCandidate (text : TextView) (goal : Term) (next : ℕ) (clause : ℕ) : Type 0 where
+  pub there : clause < length text.clauses
+  pub entries : (height : ℕ) (f : Continuation ℕ) → entries_of_clauses text goal next height f (clause ∷ []) ≡ solution_entries height f (alternatives_of text.clauses goal next)
+  pub defined : is_defined text.clauses (name_of goal) (argument_count goal) ≡ false → ⊥
+
 -- none that is left has an entry
 abbrev pub HaveNoEntry : TextView → Term → ℕ → Cursor → Type 0
 HaveNoEntry text goal next left = (height : ℕ) (f : Continuation ℕ) → entries_of_clauses text goal next height f (numbers_left text.heads left) ≡ []

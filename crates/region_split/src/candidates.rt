@@ -1,11 +1,13 @@
 //! The clauses that a goal may match.
-ghost use Rattle.std.specs.Prelude.{◌≡◌, ◌<◌, MatchOption, length, true};
-ghost use Rattle.au_model.specs.Terms.Forms.{is_callable};
-ghost use Rattle.cell_store.specs.StoreView.{IsValueIn, meaning};
+ghost use Rattle.std.specs.Prelude.{◌≡◌, ◌<◌, IfSome, MatchOption, length, true};
+ghost use Rattle.cell_store.specs.StoreView.{IsValueIn, meaning, text_in};
+ghost use Rattle.clause_index.specs.Classes.{can_match};
+ghost use Rattle.clause_index.specs.HeadKeys.{IsHeadKeyOf};
+ghost use Rattle.clause_index.specs.Numbers.{numbers, only_of};
 ghost use Rattle.clause_index.specs.Cursors.{IsCursorOf};
-ghost use Rattle.region_split.specs.Candidates.{AreCandidates, FindsClause, HaveNoEntry, AreToldApart, numbers_differ};
+ghost use Rattle.region_split.specs.Candidates.{AreCandidates, IsOnlyCandidate, FindsClause, HaveNoEntry, AreToldApart, numbers_differ};
 
-use crate::keys::{goal_numbers, key_of_value};
+use crate::keys::key_of_value;
 use crate::text::Text;
 use binding_array::BindingCell;
 use cell_store::Store;
@@ -13,16 +15,32 @@ use clause_index::{Cursor, HeadKey, NumberKey};
 
 /// The clauses that a goal may match, by its name, its number of arguments and the key of the first one.
 #[inline]
-pub(crate) fn candidates(text: &Text, store: &Store, goal: BindingCell) -> Cursor
+pub(crate) fn candidates(text: &Text, store: &Store, goal: BindingCell, by: HeadKey) -> Cursor
     requires program { store.now.program ≡ text.now.code }
-    requires there { IsValueIn store.now goal }
-    requires callable { is_callable (meaning store.now goal) ≡ true }
+    requires numbers { IsHeadKeyOf (text_in store.now).names (meaning store.now goal) by }
     ensures { AreCandidates text.now (meaning store.now goal) store.now.now.next result }
 {
     // The proof reads off that no two names are the same.
     let _next = store.next();
-    let HeadKey { name, arity, first } = goal_numbers(store, goal);
-    text.candidates(name, arity, first)
+    text.candidates(by.name, by.arity, by.first)
+}
+
+/// The clause that a goal may match by these, where that is one alone.
+#[inline(always)]
+pub(crate) fn only_candidate(
+    text: &Text,
+    store: &Store,
+    goal: BindingCell,
+    by: HeadKey,
+) -> Option<u32>
+    requires program { store.now.program ≡ text.now.code }
+    requires numbers { IsHeadKeyOf (text_in store.now).names (meaning store.now goal) by }
+    ensures only { result ≡ only_of (numbers (can_match by.name by.arity by.first) text.now.heads) }
+    ensures stands { IfSome result (IsOnlyCandidate text.now (meaning store.now goal) store.now.now.next) }
+{
+    // The proof reads off that no two names are the same.
+    let _next = store.next();
+    text.only_candidate(by.name, by.arity, by.first)
 }
 
 /// Takes the first clause off those that are left which may match a goal.

@@ -41,11 +41,18 @@ pub fn goal_numbers(store: &Store, goal: BindingCell) -> HeadKey
             arity: 0,
             first: None,
         },
-        BindingCell::Compound(at, base) => {
-            let (name, arity) = store.functor(at);
-            let first = key_of_value(store, store.argument(at + 1, base));
-            HeadKey { name, arity, first }
-        }
+        BindingCell::Compound(at, base) => compound_numbers(store, at, base),
         _ => unreachable!(),
     }
+}
+
+/// The same of a compound.
+#[inline(always)]
+pub fn compound_numbers(store: &Store, at: u32, base: u32) -> HeadKey
+    requires { IsValueIn store.now (BindingCell.Compound at base) }
+    ensures { IsHeadKeyOf (text_in store.now).names (meaning store.now (BindingCell.Compound at base)) result }
+{
+    let (name, arity) = store.functor(at);
+    let first = key_of_value(store, store.argument(at + 1, base));
+    HeadKey { name, arity, first }
 }

@@ -117,7 +117,7 @@ impl Region {
     }
 
     /// What is left at a position, by its first item.
-    #[inline]
+    #[inline(always)]
     pub fn left_at(&self, position: Position) -> Left
         requires { IsPositionIn self.now position }
         ensures { IsLeftAt self.now position result }
@@ -146,7 +146,7 @@ impl Region {
 
     /// Makes a frame, and gives its number. A frame that no choice point keeps, and that is younger than the one in which the
     /// new frame goes on, is written over.
-    #[inline]
+    #[inline(always)]
     pub fn push_frame(&mut self, frame: Frame) -> Result<u32, NoMemory>
         requires { frame.after.frame ≤ length self.old.frames }
         ensures ok { IfOk result (AddsFrame self.old self.new frame) }
@@ -299,7 +299,7 @@ impl Region {
     }
 
     /// Whether a procedure has a clause in the text, by the number of its name in the store.
-    #[inline]
+    #[inline(always)]
     pub fn is_defined(&self, name: u32, arity: u32) -> bool
         requires { name < length (text_in self.now.store).names }
         ensures { result ≡ is_defined self.now.text.clauses (name_at (text_in self.now.store).names name) arity }

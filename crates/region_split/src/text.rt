@@ -1,5 +1,5 @@
 //! Program text: bodies as places, and clauses.
-ghost use Rattle.std.specs.Prelude.{◌≡◌, ◌∷◌, ◌<◌, [], ◌++◌, OnOk, IfOk, MatchOption, Some, length, map, slice_get};
+ghost use Rattle.std.specs.Prelude.{◌≡◌, ◌∷◌, ◌<◌, [], ◌++◌, OnOk, IfOk, IfSome, MatchOption, Some, length, map, slice_get};
 ghost use Rattle.std.specs.Arc.{arc_value};
 ghost use Rattle.run_model.specs.Programs.Clauses.{Clause as ClauseTerms};
 ghost use Rattle.au_term.specs.Term.{argument};
@@ -9,7 +9,7 @@ ghost use Rattle.clause_compile.specs.Places.{AreSound, IsPlaceOf, meaning_in};
 ghost use Rattle.std.specs.List.{list_any};
 ghost use Rattle.clause_index.specs.Classes.{can_match, is_head_of};
 ghost use Rattle.clause_index.specs.Cursors.{IsCursorOf, numbers_left, TakesLeast};
-ghost use Rattle.clause_index.specs.Numbers.{numbers};
+ghost use Rattle.clause_index.specs.Numbers.{numbers, only_of};
 ghost use Rattle.region_split.specs.Texts.{body_items, IsPlacedClause, ArePlacedClauses, AreHeadKeys, AddsClause};
 
 use au_term::NoMemory;
@@ -111,7 +111,7 @@ impl Text {
     }
 
     /// Whether a clause's head has this name and number of arguments.
-    #[inline]
+    #[inline(always)]
     pub(crate) fn has_head(&self, name: u32, arity: u32) -> bool
         ensures any { result ≡ list_any (is_head_of name arity) self.now.heads }
         ensures heads { AreHeadKeys self.now.code.names self.now.clauses self.now.heads }
@@ -127,6 +127,21 @@ impl Text {
         ensures heads { AreHeadKeys self.now.code.names self.now.clauses self.now.heads }
     {
         self.index.candidates(name, arity, key)
+    }
+
+    /// The clause that such a goal may match, where that is one alone.
+    #[inline(always)]
+    pub(crate) fn only_candidate(
+        &self,
+        name: u32,
+        arity: u32,
+        key: Option<NumberKey>,
+    ) -> Option<u32>
+        ensures only { result ≡ only_of (numbers (can_match name arity key) self.now.heads) }
+        ensures there { IfSome result (λ clause. clause < length self.now.clauses) }
+        ensures heads { AreHeadKeys self.now.code.names self.now.clauses self.now.heads }
+    {
+        self.index.only_candidate(name, arity, key)
     }
 
     /// Takes the first clause off those that a cursor has left.

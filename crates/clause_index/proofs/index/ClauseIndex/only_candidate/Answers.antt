@@ -5,7 +5,7 @@ use Rattle.clause_index.proofs.ChainLemmas.{by_own}
 use Rattle.clause_index.proofs.OnlyLemmas.{both_many}
 use Rattle.clause_index.proofs.index.ClauseIndex.only_candidate.Goals as goal
 
-pub returns-in-ByKey-Some-Some : goal.returns-in-ByKey-Some-Some
-returns-in-ByKey-Some-Some c =
+pub returns-in-ByKey-Some-Some-clause-only : goal.returns-in-ByKey-Some-Some-clause-only
+returns-in-ByKey-Some-Some-clause-only c =
     let w = c.in-ByKey-Some-Some in
     sym (both_many key_class by_own c.args.self.now w.field-0 w.field-1 w._left w._right w.field-0-is w.field-1-is w.ensures.cursor) ∙ ap only_of w.ensures.numbers

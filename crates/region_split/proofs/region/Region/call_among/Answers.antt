@@ -5,7 +5,7 @@ use Rattle.region_split.specs.Texts.{TextView}
 use Rattle.region_split.specs.ClauseTrials.{TriesClause, Calls}
 use Rattle.region_split.specs.declared.choice.Trial.{Trial}
 use Rattle.region_split.proofs.CallLemmas.{last_called, others_left, if_ok_then}
-use Rattle.region_split.proofs.region.Region.call.Goals as goal
+use Rattle.region_split.proofs.region.Region.call_among.Goals as goal
 
 pub returns-in_default-next_match : goal.returns-in_default-next_match
 returns-in_default-next_match c =
