@@ -13,6 +13,7 @@ use Rattle.cell_store.specs.StoreView.{StoreView, IsDereferenced, meaning, subst
 use Rattle.cell_store.specs.declared.arguments.Arguments.{Arguments}
 use Rattle.cell_store.proofs.WritingLemmas.{how_many}
 use Rattle.region_control.specs.GoalForms.{argument_terms, AreArgumentsIn, IsFormOf}
+use Rattle.region_control.specs.declared.forms.GoalForm.{GoalForm}
 
 -- the argument with a number, counted from 0
 indexed : (s : Substitution) (code : CodeView) (next base n at i : ℕ) → i < n → AreArguments code next base n at → IsArgument code next base (at + i) × (term_at i (apply_all (value_of s) (terms_from (arguments_from code base n at))) ≡ resolve s (argument_at code base (at + i)))
@@ -44,6 +45,17 @@ compound_form st value at base f n a d h short e =
       count = ap argument_count (sym opened) ∙ (how_many (substitution st) (text_in st) base n (at + 1) ∙ ap (λ (x : Arguments). x.count) (sym e));
       there = subst (AreArgumentsIn st) (sym e) (record { there = h.arguments; short = omega (arith, short) });
     }
+
+-- the form of one value is that of another that stands for the same
+pub same_form : (st : StoreView) (a b : BindingCell) (form : GoalForm) → meaning st a ≡ meaning st b → IsFormOf st a form → IsFormOf st b form
+same_form st a b form e h = record {
+  callable = ap is_callable (sym e) ∙ h.callable;
+  named = h.named;
+  name = ap name_of (sym e) ∙ h.name;
+  arguments = ap arguments (sym e) ∙ h.arguments;
+  count = ap argument_count (sym e) ∙ h.count;
+  there = h.there;
+}
 
 -- and of an atom
 pub atom_form : (st : StoreView) (value : BindingCell) (f : ℕ) (a : Arguments) → IsDereferenced st value (Atom f) → a ≡ record { at = 0; base = 0; count = 0 } → IsFormOf st value (record { name = f; arguments = a })

@@ -5,6 +5,7 @@ use Rattle.run_model.specs.Machine.Items.{Item, CollectMark, RemovalItem, before
 use Rattle.run_model.specs.Machine.Entries.{Entry, PlainEntry, EndEntry, collected}
 use Rattle.run_model.specs.Machine.FreeSteps.{take_free_steps, findall_ends}
 use Rattle.binding_array.specs.declared.cell.BindingCell.{BindingCell}
+use Rattle.binding_array.specs.declared.cell.BindingCell.TheVariants.{Compound}
 use Rattle.cell_store.specs.StoreView.{IsValueIn, meaning}
 use Rattle.region_split.specs.ChoicePoints.{height_of_cut, IsFindallAt}
 use Rattle.region_split.specs.Regions.{RegionView, entries_of, heights_of, items_here, continuation_here, position_entry, IsPositionIn, IsItemHere}
@@ -13,11 +14,14 @@ use Rattle.region_split.specs.ClauseTrials.{entries_at}
 use Rattle.region_split.specs.ResultLists.{ResultsView}
 use Rattle.region_split.specs.declared.frame.FrameItem.{FrameItem}
 use Rattle.region_split.specs.declared.frame.FrameItem.TheVariants.{Goal as ValueGoal, Call, Cut, True, Fail, CatchEnd, Collect, Removal as RemovedClause}
+use Rattle.region_split.specs.declared.frame.Left.{Left}
+use Rattle.region_split.specs.declared.frame.Left.TheVariants.{First}
 use Rattle.region_split.specs.declared.frame.Position.{Position}
 use Rattle.region_control.specs.Controls.{IsGoalPlace}
 use Rattle.region_control.specs.declared.control.GoalPlace.{GoalPlace}
 use Rattle.region_control.specs.declared.ahead.Ahead.{Ahead}
 use Rattle.region_control.specs.declared.ahead.Ahead.TheVariants.{Goal, Removal, Answer, QueryDone, AllDone}
+use Rattle.region_control.specs.declared.ahead.CompoundAhead.{CompoundAhead}
 use Rattle.region_control.specs.declared.ahead.FirstItem.{FirstItem}
 use Rattle.region_control.specs.declared.ahead.FirstItem.TheVariants as first
 
@@ -44,6 +48,15 @@ items_with_goal named r item g = item_here r item g.cut (heights_of named r) ++ 
 
 abbrev pub goal_entry : List NamedTerm → RegionView → FrameItem → GoalPlace → Entry
 goal_entry named r item g = PlainEntry (before (item_here r item g.cut (heights_of named r)) (continuation_here named r g.after))
+
+-- whether what is left begins with a compound
+abbrev pub is_compound_first : Left → Bool
+is_compound_first (First (ValueGoal (Compound at base)) cut) = true
+is_compound_first _ = false
+
+-- a compound that stands first as a goal
+abbrev pub compound_goal : CompoundAhead → Ahead
+compound_goal g = Goal (ValueGoal (Compound g.at g.base)) g.place
 
 -- what comes first at a position after the ends of catches
 pub record HasGoalFirst (r : RegionView) (p : Position) (item : FrameItem) (g : GoalPlace) : Type 0 where

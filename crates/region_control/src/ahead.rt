@@ -1,13 +1,13 @@
 //! What lies ahead where no free step is left (ISO/IEC 13211-1, 7.8.9 and 8.10.1).
-ghost use Rattle.std.specs.Prelude.{◌≡◌, ◌≤◌, IfOk, IfSome, OnOk, length};
+ghost use Rattle.std.specs.Prelude.{◌≡◌, ◌≤◌, false, IfOk, IfSome, OnOk, MatchOption, Some, length};
 ghost use Rattle.cell_store.specs.StoreView.{IsValueIn};
-ghost use Rattle.region_split.specs.Regions.{items_here, IsPositionIn, IsPositionOver};
+ghost use Rattle.region_split.specs.Regions.{items_here, IsLeftAt, IsPositionIn, IsPositionOver};
 ghost use Rattle.region_split.specs.ChoicePoints.{IsFindallAt};
 ghost use Rattle.region_split.specs.Backtracking.{IsResumed};
 ghost use Rattle.region_split.specs.ClauseTrials.{IsOptionalPosition};
 ghost use Rattle.region_split.specs.declared.choice.Resumed.{Resumed as ResumedValue};
 ghost use Rattle.region_control.specs.declared.ahead.Ahead.{Ahead as AheadValue};
-ghost use Rattle.region_control.specs.Ahead.{is_goal_item, HasFirst, LiesAhead, EndsFindall, CollectsResult};
+ghost use Rattle.region_control.specs.Ahead.{is_goal_item, is_compound_first, compound_goal, HasFirst, LiesAhead, EndsFindall, CollectsResult};
 
 use crate::control::GoalPlace;
 use au_model::build::{binary, list_of};
@@ -42,6 +42,14 @@ pub enum Ahead {
     QueryDone,
     /// No choice point is left.
     AllDone,
+}
+
+/// A compound that stands first as a goal, by its place, and where it stands.
+#[derive(Clone, Copy, Debug)]
+pub struct CompoundAhead {
+    pub at: u32,
+    pub base: u32,
+    pub place: GoalPlace,
 }
 
 /// Goes on at a position, or with what the choice points have left, as far as that costs no inference.
@@ -85,6 +93,29 @@ fn goal_at(
     let frame = position.frame;
     let after = past_end(region, Position { frame, at }, cut);
     Ok(Some((item, GoalPlace { cut, after })))
+}
+
+/// The goal that stands first at a position where this is left, if it is a compound.
+#[inline(always)]
+pub fn compound_ahead(
+    region: &Region,
+    position: Position,
+    left: Left,
+) -> Result<Option<CompoundAhead>, NoMemory>
+    requires position { IsPositionIn region.now position }
+    requires left { IsLeftAt region.now position left }
+    ensures { IfOk result (λ found. MatchOption found (is_compound_first left ≡ false) (λ g. LiesAhead region.now region.now (Some position) (compound_goal g))) }
+{
+    let Left::First(FrameItem::Goal(BindingCell::Compound(at, base)), cut) = left else {
+        return Ok(None);
+    };
+    let Some(next) = position.at.checked_add(1) else {
+        return Err(NoMemory);
+    };
+    let frame = position.frame;
+    let after = past_end(region, Position { frame, at: next }, cut);
+    let place = GoalPlace { cut, after };
+    Ok(Some(CompoundAhead { at, base, place }))
 }
 
 /// The same where no goal need stand first.
@@ -157,6 +188,7 @@ fn first_item(region: &Region, position: Position) -> Result<FirstItem, NoMemory
 
 /// Where a goal goes on: at this position, or, if its frame has come to its end, where that goes on. So no later goal walks
 /// over the frame of a last goal, which is kept for choice points alone.
+#[inline(always)]
 fn past_end(region: &Region, position: Position, cut: u32) -> Position
     requires scope { cut ≤ length region.now.choices }
     requires over { IsPositionOver region.now cut position }

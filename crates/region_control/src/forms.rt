@@ -31,15 +31,22 @@ pub fn form_of(store: &Store, value: BindingCell) -> Option<GoalForm>
             };
             Some(GoalForm { name, arguments })
         }
-        BindingCell::Compound(at, base) => {
-            let (name, count) = store.functor(at);
-            let arguments = arguments_of((at, base), count);
-            Some(GoalForm { name, arguments })
-        }
+        BindingCell::Compound(at, base) => Some(compound_form(store, at, base)),
         BindingCell::Free => unreachable!(),
         BindingCell::Var(_) => None,
         BindingCell::Int(_) => None,
     }
+}
+
+/// The same of a compound.
+#[inline(always)]
+pub fn compound_form(store: &Store, at: u32, base: u32) -> GoalForm
+    requires { IsValueIn store.now (BindingCell.Compound at base) }
+    ensures { IsFormOf store.now (BindingCell.Compound at base) result }
+{
+    let (name, count) = store.functor(at);
+    let arguments = arguments_of((at, base), count);
+    GoalForm { name, arguments }
 }
 
 /// An argument by its number, counted from 0.

@@ -13,9 +13,9 @@ mod goals;
 mod replies;
 pub mod sides;
 
-pub use ahead::{Ahead, look_ahead};
+pub use ahead::{Ahead, CompoundAhead, compound_ahead, look_ahead};
 pub use balls::throw;
 pub use control::{GoalPlace, call, catch, cut, disjunction, findall, if_then, not, once};
-pub use forms::{GoalForm, argument, form_of};
+pub use forms::{GoalForm, argument, compound_form, form_of};
 pub use goals::{Goals, push_goals};
 pub use replies::{AfterGoal, raise, raise_fault};

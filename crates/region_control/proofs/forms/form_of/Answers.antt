@@ -1,6 +1,6 @@
-use Rattle.region_control.proofs.FormLemmas.{compound_form}
+use Rattle.region_control.proofs.FormLemmas.{same_form}
 use Rattle.region_control.proofs.forms.form_of.Goals as goal
+use Rattle.binding_array.specs.declared.cell.BindingCell.TheVariants.{Compound}
 
 pub returns-in-Compound : goal.returns-in-Compound
-returns-in-Compound c =
-    compound_form c.args.store.now c.args.value c.in-Compound.at c.in-Compound.base _ _ c.arguments_of-arguments.result c.in-Compound.ensures (c.functor-name.ensures.functor c.in-Compound.base c.in-Compound.ensures.there) c.functor-name.ensures.short c.arguments_of-arguments.ensures
+returns-in-Compound c = same_form c.args.store.now (Compound c.in-Compound.at c.in-Compound.base) c.args.value c.compound_form.result c.in-Compound.ensures.same c.compound_form.ensures
