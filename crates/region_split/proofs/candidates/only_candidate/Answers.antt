@@ -1,4 +1,3 @@
-use Rattle.std.proofs.Common.{◌≡◌, ◌<◌, Option, Some, None, IfSome, length}
 use Rattle.region_split.proofs.CandidateLemmas.{is_only_or_none}
 use Rattle.region_split.proofs.candidates.only_candidate.Goals as goal
 
