@@ -78,7 +78,7 @@ impl GoalKinds {
     }
 
     /// What goals with this name, by its number, and number of arguments are.
-    #[inline]
+    #[inline(always)]
     pub fn kind(&self, name: u32, arity: u32) -> GoalKind
         requires { name < length self.now }
         ensures { IsKindOf (name_at self.now name) arity result }

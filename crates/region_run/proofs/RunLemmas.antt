@@ -11,23 +11,26 @@ use Rattle.run_model.specs.Machine.Entries.{Entry, EndEntry}
 use Rattle.run_model.specs.Machine.Items.{Continuation}
 use Rattle.run_model.specs.Machine.States.{State, step, with_free_steps, entry_taken, goal_taken, with_entries}
 use Rattle.run_model.specs.Programs.Clauses.{Clause}
+use Rattle.binding_array.specs.declared.cell.BindingCell.TheVariants.{Compound}
 use Rattle.run_model.proofs.StepLemmas.{step_is}
 use Rattle.region_split.specs.ChoicePoints.{height_of_cut}
-use Rattle.region_split.specs.ClauseTrials.{entries_at, IsOptionalPosition}
+use Rattle.region_split.specs.ClauseTrials.{entries_at, Calls, IsOptionalPosition}
 use Rattle.region_split.specs.Texts.{TextView}
 use Rattle.region_split.specs.Regions.{RegionView, entries_of, heights_of, continuation_here, position_entry, IsPositionIn}
 use Rattle.region_split.specs.declared.frame.FrameItem.{FrameItem}
 use Rattle.region_split.specs.declared.frame.FrameItem.TheVariants as item
 use Rattle.region_split.specs.declared.frame.Position.{Position}
-use Rattle.region_control.specs.Ahead.{is_goal_item, goal_entry, ahead_entries, IsGoalThere, LiesAhead}
+use Rattle.region_control.specs.Ahead.{is_goal_item, goal_entry, ahead_entries, compound_goal, IsGoalThere, IsThereAhead, LiesAhead}
 use Rattle.region_control.specs.declared.ahead.Ahead.{Ahead}
+use Rattle.region_control.specs.declared.ahead.CompoundAhead.{CompoundAhead}
 use Rattle.region_control.specs.Replies.{Leaves, LeavesOutcome}
 use Rattle.region_control.specs.declared.ahead.Ahead.TheVariants as ahead
 use Rattle.region_control.specs.declared.control.GoalPlace.{GoalPlace}
 use Rattle.region_control.specs.declared.replies.AfterGoal.{AfterGoal}
 use Rattle.region_control.specs.declared.replies.AfterGoal.TheVariants.{At, Failed, Uncaught, AsksWorld}
 use Rattle.region_run.specs.Inferences.{item_goal, InfersItem}
-use Rattle.region_run.specs.Runs.{run_on, AsksWorldNext, IsStop, Runs, stop_entries}
+use Rattle.region_run.specs.Runs.{run_on, AsksWorldNext, IsStop, Runs, IsCallAhead, compound_term, stop_entries, stop_of}
+use Rattle.region_run.proofs.InferenceLemmas.{item_infers, called_at, called_none}
 use Rattle.region_run.specs.declared.running.Stop.{Stop}
 use Rattle.region_run.specs.declared.running.Stop.TheVariants as stop
 
@@ -146,6 +149,21 @@ running_begun r start i = record {
   text = refl;
 }
 
+-- where no more goal is taken
+pub stops_there : (named : List NamedTerm) (r : RegionView) (a : Ahead) → stop_entries named r (stop_of a) ≡ ahead_entries named r a
+stops_there named r (ahead.Goal i g) = refl
+stops_there named r (ahead.Removal number after) = refl
+stops_there named r (ahead.Answer p) = refl
+stops_there named r ahead.QueryDone = refl
+stops_there named r ahead.AllDone = refl
+
+pub is_stop : (r : RegionView) (limit taken : ℕ) (a : Ahead) → IsThereAhead r a → ((i : FrameItem) (g : GoalPlace) → a ≡ ahead.Goal i g → taken ≡ limit) → IsStop r limit (record { taken = taken; stop = stop_of a }) (stop_of a)
+is_stop r limit taken (ahead.Goal i g) t e = (t, e i g refl)
+is_stop r limit taken (ahead.Removal number after) t e = t
+is_stop r limit taken (ahead.Answer p) t e = t
+is_stop r limit taken ahead.QueryDone t e = tt
+is_stop r limit taken ahead.AllDone t e = t
+
 module _ (old r r1 : RegionView) (start next : Option Position) (taken : ℕ) (w : IsRunning old r start next taken) (a : Ahead) (l : LiesAhead r r1 next a) where
   -- the state in which no free step is left
   abbrev ahead_state : List NamedTerm → State → State
@@ -161,6 +179,11 @@ module _ (old r r1 : RegionView) (start next : Option Position) (taken : ℕ) (w
     within = le;
     stops = stops;
   }
+
+  pub stops_at : (limit : ℕ) (s : Stop) → s ≡ stop_of a → taken ≤ limit → ((i : FrameItem) (g : GoalPlace) → a ≡ ahead.Goal i g → taken ≡ limit) → Runs old r1 start limit (record { taken = taken; stop = s })
+  stops_at limit s e le full =
+      runs_up_to limit s le (λ named. subst (λ z. stop_entries named r1 z ≡ ahead_entries named r1 a) (sym e) (stops_there named r1 a))
+      (subst (λ z. IsStop r1 limit (record { taken = taken; stop = z }) z) (sym e) (is_stop r1 limit taken a l.there full))
 
   -- one more
   module _ (i : FrameItem) (g : GoalPlace) (is : a ≡ ahead.Goal i g) (there : IsGoalThere r1 i g) (text1 : r1.text ≡ r.text) (r2 : RegionView) (after : AfterGoal) (x : InfersItem r1 r2 i g after) where
@@ -216,3 +239,17 @@ module _ (old r r1 : RegionView) (start next : Option Position) (taken : ℕ) (w
           within = omega (arith, lt);
           stops = asks.0;
         }
+
+-- a call is one more
+pub calls_on : (old r : RegionView) (start next : Option Position) (taken : ℕ) → IsRunning old r start next taken → (g : CompoundAhead) → IsCallAhead r next g
+    → (r2 : RegionView) (reached : Option Position) → Calls r r2 (Compound g.at g.base) g.place.after reached → IsRunning old r2 start reached (taken + 1)
+calls_on old r start next taken w g is r2 (Some p) calls =
+    let i = item.Goal (Compound g.at g.base) in
+    let t = compound_term r g in
+    goes_on_at old r r start next taken w (compound_goal g) is.ahead i g.place refl is.ahead.there refl r2 (At p)
+    (item_infers r r2 i g.place (At p) t refl (called_at r t g.place is.callable is.row is.defined r2 (Compound g.at g.base) refl p calls)) p refl calls.text
+calls_on old r start next taken w g is r2 None calls =
+    let i = item.Goal (Compound g.at g.base) in
+    let t = compound_term r g in
+    fails_on old r r start next taken w (compound_goal g) is.ahead i g.place refl is.ahead.there refl r2 Failed
+    (item_infers r r2 i g.place Failed t refl (called_none r t g.place is.callable is.row is.defined r2 (Compound g.at g.base) refl calls)) refl calls.text

@@ -8,7 +8,7 @@ use cell_store::Store;
 use goal_kinds::{GoalKind, GoalKinds, kind_of_name};
 
 /// What goals with this name, by its number in the store, and so many arguments are.
-#[inline]
+#[inline(always)]
 pub(crate) fn kind_of(kinds: &GoalKinds, store: &Store, name: u32, arity: u32) -> GoalKind
     requires names { kinds.now ≡ store.now.program.names }
     requires there { name < length (text_in store.now).names }

@@ -1,12 +1,17 @@
 //! Runs of a region.
-ghost use Rattle.std.specs.Prelude.{◌≡◌, IfOk, OnOk, length};
+ghost use Rattle.std.specs.Prelude.{◌≡◌, IfOk, IfSome, OnOk, length};
 ghost use Rattle.region_split.specs.ClauseTrials.{IsOptionalPosition};
-ghost use Rattle.region_run.specs.Runs.{Runs};
+ghost use Rattle.region_run.specs.Runs.{Runs, IsCallAhead, stop_of};
 
 use crate::inference::infer;
+use crate::kinds::kind_of;
 use au_term::{FlatTerm, NoMemory};
-use goal_kinds::GoalKinds;
-use region_control::{AfterGoal, Ahead, GoalPlace, look_ahead};
+use binding_array::BindingCell;
+use goal_kinds::{GoalKind, GoalKinds};
+use region_control::{
+    AfterGoal, Ahead, CompoundAhead, GoalPlace, compound_ahead, compound_form, look_ahead,
+};
+use region_split::keys::compound_numbers;
 use region_split::{FrameItem, Position, Region};
 use std::alloc::Global;
 
@@ -51,45 +56,78 @@ pub fn run(
     let mut next = start;
     let mut taken = 0;
     loop {
-        match look_ahead(region, alloc, next)? {
-            Ahead::Goal(item, place) => {
-                if taken == limit {
-                    let stop = Stop::Limit(item, place);
-                    return Ok(Ran { taken, stop });
-                }
-                next = match infer(region, alloc, kinds, item, place)? {
-                    AfterGoal::At(position) => Some(position),
-                    AfterGoal::Failed => None,
-                    AfterGoal::Uncaught(ball) => {
-                        let stop = Stop::QueryDone(Some(Box::into_inner(ball)));
-                        return Ok(Ran {
-                            taken: taken + 1,
-                            stop,
-                        });
-                    }
-                    AfterGoal::AsksWorld => {
-                        let stop = Stop::World(item, place);
-                        return Ok(Ran { taken, stop });
-                    }
-                };
+        if taken < limit {
+            if let Some(call) = call_ahead(region, kinds, next)? {
+                let goal = BindingCell::Compound(call.at, call.base);
+                let numbers = compound_numbers(region.store(), call.at, call.base);
+                next = region.call_by(goal, numbers, call.place.after)?;
                 taken += 1;
-            }
-            Ahead::Removal(number, after) => {
-                let stop = Stop::Removal(number, after);
-                return Ok(Ran { taken, stop });
-            }
-            Ahead::Answer(position) => {
-                let stop = Stop::Answer(position);
-                return Ok(Ran { taken, stop });
-            }
-            Ahead::QueryDone => {
-                let stop = Stop::QueryDone(None);
-                return Ok(Ran { taken, stop });
-            }
-            Ahead::AllDone => {
-                let stop = Stop::AllDone;
-                return Ok(Ran { taken, stop });
+                continue;
             }
         }
+        let ahead = look_ahead(region, alloc, next)?;
+        let Ahead::Goal(item, place) = ahead else {
+            let stop = stop_at(ahead);
+            return Ok(Ran { taken, stop });
+        };
+        if taken == limit {
+            let stop = Stop::Limit(item, place);
+            return Ok(Ran { taken, stop });
+        }
+        next = match infer(region, alloc, kinds, item, place)? {
+            AfterGoal::At(position) => Some(position),
+            AfterGoal::Failed => None,
+            AfterGoal::Uncaught(ball) => {
+                let stop = Stop::QueryDone(Some(Box::into_inner(ball)));
+                return Ok(Ran {
+                    taken: taken + 1,
+                    stop,
+                });
+            }
+            AfterGoal::AsksWorld => {
+                let stop = Stop::World(item, place);
+                return Ok(Ran { taken, stop });
+            }
+        };
+        taken += 1;
+    }
+}
+
+/// The compound that stands first at a position, if it calls a procedure of the text.
+#[inline(always)]
+fn call_ahead(
+    region: &Region,
+    kinds: &GoalKinds,
+    start: Option<Position>,
+) -> Result<Option<CompoundAhead>, NoMemory>
+    requires start { IsOptionalPosition region.now (length region.now.choices) start }
+    requires kinds { kinds.now ≡ region.now.text.code.names }
+    ensures { IfOk result (λ found. IfSome found (IsCallAhead region.now start)) }
+{
+    let Some(position) = start else {
+        return Ok(None);
+    };
+    let left = region.left_at(position);
+    let Some(goal) = compound_ahead(region, position, left)? else {
+        return Ok(None);
+    };
+    let store = region.store();
+    let form = compound_form(store, goal.at, goal.base);
+    match kind_of(kinds, store, form.name, form.arguments.count) {
+        GoalKind::Call if region.is_defined(form.name, form.arguments.count) => Ok(Some(goal)),
+        _ => Ok(None),
+    }
+}
+
+/// Where a run stops that takes no more goal.
+fn stop_at(ahead: Ahead) -> Stop
+    ensures { result ≡ stop_of ahead }
+{
+    match ahead {
+        Ahead::Goal(item, place) => Stop::Limit(item, place),
+        Ahead::Removal(number, after) => Stop::Removal(number, after),
+        Ahead::Answer(position) => Stop::Answer(position),
+        Ahead::QueryDone => Stop::QueryDone(None),
+        Ahead::AllDone => Stop::AllDone,
     }
 }

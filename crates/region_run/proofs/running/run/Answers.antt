@@ -1,95 +1,78 @@
-use Rattle.std.proofs.Common.{◌+◌, ◌<◌, Some, None, refl, sym, subst, arith}
+use Rattle.std.proofs.Common.{◌+◌, ◌<◌, Some, ◌∙◌, refl, sym, subst, arith}
+use Rattle.std.specs.Prelude.{IfSome}
+use Rattle.region_control.proofs.ControlLemmas.{place_in}
 use Rattle.region_control.specs.Ahead.{LiesAhead}
 use Rattle.region_control.specs.declared.ahead.Ahead.TheVariants as ahead
 use Rattle.region_run.specs.declared.running.Stop.TheVariants as stop
-use Rattle.region_run.specs.Runs.{Runs}
-use Rattle.region_run.proofs.RunLemmas.{runs_up_to, goes_on_at, fails_on, ends_uncaught, world_next}
+use Rattle.region_run.specs.Runs.{IsCallAhead, Runs}
+use Rattle.region_run.proofs.RunLemmas.{runs_up_to, stops_at, calls_on, goes_on_at, fails_on, ends_uncaught, world_next}
 use Rattle.region_run.proofs.running.run.Goals.{in-At, in-Failed}
 use Rattle.region_run.proofs.running.run.Goals as goal
 
-pub returns-then-taken-limit-clause-runs : goal.returns-then-taken-limit-clause-runs
-returns-then-taken-limit-clause-runs c =
-    let old = c.args.region.now in
-    let r = c.loop-item.region in
-    let r1 = c.look_ahead.new.region in
-    let w = c.loop-item.invariant.0 in
-    let le = c.loop-item.invariant.1 in
-    let l = subst (LiesAhead r r1 c.loop-item.next) c.in-Goal.is c.in_ok-item.ensures.ahead in
-    runs_up_to old r r1 c.args.start c.loop-item.next c.loop-item.taken w (ahead.Goal c.in-Goal.item c.in-Goal.place) l c.args.limit (stop.Limit c.in-Goal.item c.in-Goal.place) le (λ named. refl) (l.there, c.if-taken-limit.true)
+pub call_by-requires-clause-after : goal.call_by-requires-clause-after
+call_by-requires-clause-after c =
+    let r = c.loop-taken.region in
+    let called = subst (λ o. IfSome o (IsCallAhead r c.loop-taken.next)) c.in-Some.is c.in_ok-call.ensures in
+    place_in r c.in-Some.call.place called.ahead.there.place
 
-pub returns-in-Removal-clause-runs : goal.returns-in-Removal-clause-runs
-returns-in-Removal-clause-runs c =
-    let old = c.args.region.now in
-    let r = c.loop-item.region in
-    let r1 = c.look_ahead.new.region in
-    let w = c.loop-item.invariant.0 in
-    let le = c.loop-item.invariant.1 in
-    let l = subst (LiesAhead r r1 c.loop-item.next) c.in-Removal.is c.in_ok-item.ensures.ahead in
-    runs_up_to old r r1 c.args.start c.loop-item.next c.loop-item.taken w (ahead.Removal c.in-Removal.number c.in-Removal.after) l c.args.limit (stop.Removal c.in-Removal.number c.in-Removal.after) le (λ named. refl) l.there
+pub loop-taken-preserved-in-Some : goal.loop-taken-preserved-in-Some
+loop-taken-preserved-in-Some c =
+    let r = c.loop-taken.region in
+    let few = c.if-taken-limit.true in
+    let called = subst (λ o. IfSome o (IsCallAhead r c.loop-taken.next)) c.in-Some.is c.in_ok-call.ensures in
+    (calls_on c.args.region.now r c.args.start c.loop-taken.next c.loop-taken.taken c.loop-taken.invariant.0 c.in-Some.call called c.call_by.new.self _ c.in_ok-next.ensures, omega (arith, few))
 
-pub returns-in-Answer-clause-runs : goal.returns-in-Answer-clause-runs
-returns-in-Answer-clause-runs c =
-    let old = c.args.region.now in
-    let r = c.loop-item.region in
-    let r1 = c.look_ahead.new.region in
-    let w = c.loop-item.invariant.0 in
-    let le = c.loop-item.invariant.1 in
-    let l = subst (LiesAhead r r1 c.loop-item.next) c.in-Answer.is c.in_ok-item.ensures.ahead in
-    runs_up_to old r r1 c.args.start c.loop-item.next c.loop-item.taken w (ahead.Answer c.in-Answer.position) l c.args.limit (stop.Answer c.in-Answer.position) le (λ named. refl) l.there
+pub returns-in_default-ahead : goal.returns-in_default-ahead
+returns-in_default-ahead c =
+    let w = c.loop-taken.invariant.0 in
+    record {
+      runs = stops_at c.args.region.now c.loop-taken.region c.look_ahead.new.region c.args.start c.loop-taken.next c.loop-taken.taken w _ c.in_ok-ahead.ensures.ahead c.args.limit _ c.stop_at-stop.ensures c.loop-taken.invariant.1 (λ i g e. absurd (c.in_default-ahead.not-Goal i g e));
+      text = c.in_ok-ahead.ensures.text ∙ w.text;
+    }
 
-pub returns-in-QueryDone-clause-runs : goal.returns-in-QueryDone-clause-runs
-returns-in-QueryDone-clause-runs c =
+pub returns-then-taken-limit-2-clause-runs : goal.returns-then-taken-limit-2-clause-runs
+returns-then-taken-limit-2-clause-runs c =
     let old = c.args.region.now in
-    let r = c.loop-item.region in
+    let r = c.loop-taken.region in
     let r1 = c.look_ahead.new.region in
-    let w = c.loop-item.invariant.0 in
-    let le = c.loop-item.invariant.1 in
-    let l = subst (LiesAhead r r1 c.loop-item.next) c.in-QueryDone.is c.in_ok-item.ensures.ahead in
-    runs_up_to old r r1 c.args.start c.loop-item.next c.loop-item.taken w ahead.QueryDone l c.args.limit (stop.QueryDone None) le (λ named. refl) tt
-
-pub returns-in-AllDone-clause-runs : goal.returns-in-AllDone-clause-runs
-returns-in-AllDone-clause-runs c =
-    let old = c.args.region.now in
-    let r = c.loop-item.region in
-    let r1 = c.look_ahead.new.region in
-    let w = c.loop-item.invariant.0 in
-    let le = c.loop-item.invariant.1 in
-    let l = subst (LiesAhead r r1 c.loop-item.next) c.in-AllDone.is c.in_ok-item.ensures.ahead in
-    runs_up_to old r r1 c.args.start c.loop-item.next c.loop-item.taken w ahead.AllDone l c.args.limit stop.AllDone le (λ named. refl) l.there
+    let w = c.loop-taken.invariant.0 in
+    let le = c.loop-taken.invariant.1 in
+    let l = subst (LiesAhead r r1 c.loop-taken.next) c.in-Goal.is c.in_ok-ahead.ensures.ahead in
+    runs_up_to old r r1 c.args.start c.loop-taken.next c.loop-taken.taken w (ahead.Goal c.in-Goal.item c.in-Goal.place) l c.args.limit (stop.Limit c.in-Goal.item c.in-Goal.place) le (λ named. refl) (l.there, c.if-taken-limit-2.true)
 
 pub returns-in-Uncaught-clause-runs : goal.returns-in-Uncaught-clause-runs
 returns-in-Uncaught-clause-runs c =
     let old = c.args.region.now in
-    let r = c.loop-item.region in
+    let r = c.loop-taken.region in
     let r1 = c.look_ahead.new.region in
-    let w = c.loop-item.invariant.0 in
-    let le = c.loop-item.invariant.1 in
-    let l = subst (LiesAhead r r1 c.loop-item.next) c.in-Goal.is c.in_ok-item.ensures.ahead in
-    let few : c.loop-item.taken < c.args.limit = let other = c.if-taken-limit.false in omega (arith, le, other) in
-    subst (λ ball. Runs old c.infer.new.region c.args.start c.args.limit (record { taken = c.loop-item.taken + 1; stop = stop.QueryDone (Some ball) })) (sym c.into_inner.ensures)
-    (ends_uncaught old r r1 c.args.start c.loop-item.next c.loop-item.taken w (ahead.Goal c.in-Goal.item c.in-Goal.place) l c.in-Goal.item c.in-Goal.place refl l.there c.in_ok-item.ensures.text c.infer.new.region c.in_ok-position-in-Goal.field-0 c.in_ok-position-in-Goal.ensures.infers c.args.limit c.in-Uncaught.ball few c.in-Uncaught.is)
+    let w = c.loop-taken.invariant.0 in
+    let le = c.loop-taken.invariant.1 in
+    let l = subst (LiesAhead r r1 c.loop-taken.next) c.in-Goal.is c.in_ok-ahead.ensures.ahead in
+    let few : c.loop-taken.taken < c.args.limit = let other = c.if-taken-limit-2.false in omega (arith, le, other) in
+    subst (λ ball. Runs old c.infer.new.region c.args.start c.args.limit (record { taken = c.loop-taken.taken + 1; stop = stop.QueryDone (Some ball) })) (sym c.into_inner.ensures)
+    (ends_uncaught old r r1 c.args.start c.loop-taken.next c.loop-taken.taken w (ahead.Goal c.in-Goal.item c.in-Goal.place) l c.in-Goal.item c.in-Goal.place refl l.there c.in_ok-ahead.ensures.text c.infer.new.region c.in_ok-position.field-0 c.in_ok-position.ensures.infers c.args.limit c.in-Uncaught.ball few c.in-Uncaught.is)
 
 pub returns-in-AsksWorld-clause-runs : goal.returns-in-AsksWorld-clause-runs
 returns-in-AsksWorld-clause-runs c =
     let old = c.args.region.now in
-    let r = c.loop-item.region in
+    let r = c.loop-taken.region in
     let r1 = c.look_ahead.new.region in
-    let w = c.loop-item.invariant.0 in
-    let le = c.loop-item.invariant.1 in
-    let l = subst (LiesAhead r r1 c.loop-item.next) c.in-Goal.is c.in_ok-item.ensures.ahead in
-    let few : c.loop-item.taken < c.args.limit = let other = c.if-taken-limit.false in omega (arith, le, other) in
-    world_next old r r1 c.args.start c.loop-item.next c.loop-item.taken w (ahead.Goal c.in-Goal.item c.in-Goal.place) l c.in-Goal.item c.in-Goal.place refl l.there c.in_ok-item.ensures.text c.infer.new.region c.in_ok-position-in-Goal.field-0 c.in_ok-position-in-Goal.ensures.infers c.args.limit few c.in-AsksWorld.is
+    let w = c.loop-taken.invariant.0 in
+    let le = c.loop-taken.invariant.1 in
+    let l = subst (LiesAhead r r1 c.loop-taken.next) c.in-Goal.is c.in_ok-ahead.ensures.ahead in
+    let few : c.loop-taken.taken < c.args.limit = let other = c.if-taken-limit-2.false in omega (arith, le, other) in
+    world_next old r r1 c.args.start c.loop-taken.next c.loop-taken.taken w (ahead.Goal c.in-Goal.item c.in-Goal.place) l c.in-Goal.item c.in-Goal.place refl l.there c.in_ok-ahead.ensures.text c.infer.new.region c.in_ok-position.field-0 c.in_ok-position.ensures.infers c.args.limit few c.in-AsksWorld.is
 
-pub loop-item-preserved : goal.loop-item-preserved
-loop-item-preserved c =
+pub loop-taken-preserved : goal.loop-taken-preserved
+loop-taken-preserved c =
     let old = c.args.region.now in
-    let r = c.loop-item.region in
+    let r = c.loop-taken.region in
     let r1 = c.look_ahead.new.region in
-    let w = c.loop-item.invariant.0 in
-    let le = c.loop-item.invariant.1 in
-    let l = subst (LiesAhead r r1 c.loop-item.next) c.in-Goal.is c.in_ok-item.ensures.ahead in
-    let few : c.loop-item.taken < c.args.limit = let other = c.if-taken-limit.false in omega (arith, le, other) in
-    elim c.match-branch-4.branch [
-      | in-At w1 ↦ rw w1.next-is (goes_on_at old r r1 c.args.start c.loop-item.next c.loop-item.taken w (ahead.Goal c.in-Goal.item c.in-Goal.place) l c.in-Goal.item c.in-Goal.place refl l.there c.in_ok-item.ensures.text c.infer.new.region c.in_ok-position-in-Goal.field-0 c.in_ok-position-in-Goal.ensures.infers w1.in-At.position w1.in-At.is c.in_ok-position-in-Goal.ensures.text, omega (arith, few))
-      | in-Failed w1 ↦ rw w1.next-is (fails_on old r r1 c.args.start c.loop-item.next c.loop-item.taken w (ahead.Goal c.in-Goal.item c.in-Goal.place) l c.in-Goal.item c.in-Goal.place refl l.there c.in_ok-item.ensures.text c.infer.new.region c.in_ok-position-in-Goal.field-0 c.in_ok-position-in-Goal.ensures.infers w1.in-Failed.is c.in_ok-position-in-Goal.ensures.text, omega (arith, few))
+    let w = c.loop-taken.invariant.0 in
+    let le = c.loop-taken.invariant.1 in
+    let l = subst (LiesAhead r r1 c.loop-taken.next) c.in-Goal.is c.in_ok-ahead.ensures.ahead in
+    let few : c.loop-taken.taken < c.args.limit = let other = c.if-taken-limit-2.false in omega (arith, le, other) in
+    elim c.match-branch-6.branch [
+      | in-At w1 ↦ rw w1.next-is (goes_on_at old r r1 c.args.start c.loop-taken.next c.loop-taken.taken w (ahead.Goal c.in-Goal.item c.in-Goal.place) l c.in-Goal.item c.in-Goal.place refl l.there c.in_ok-ahead.ensures.text c.infer.new.region c.in_ok-position.field-0 c.in_ok-position.ensures.infers w1.in-At.position w1.in-At.is c.in_ok-position.ensures.text, omega (arith, few))
+      | in-Failed w1 ↦ rw w1.next-is (fails_on old r r1 c.args.start c.loop-taken.next c.loop-taken.taken w (ahead.Goal c.in-Goal.item c.in-Goal.place) l c.in-Goal.item c.in-Goal.place refl l.there c.in_ok-ahead.ensures.text c.infer.new.region c.in_ok-position.field-0 c.in_ok-position.ensures.infers w1.in-Failed.is c.in_ok-position.ensures.text, omega (arith, few))
     ]
