@@ -1,0 +1,32 @@
+-- Items by their numbers.
+use Rattle.std.proofs.Common.{◌≡◌, ℕ, zero, suc, ◌<◌, ◌≤◌, List, [], ◌∷◌, length, map, drop, get_or, Some, None, refl, ap, ◌∙◌, subst, arith}
+use Rattle.std.specs.List.{slice_get}
+use Rattle.std.specs.Option.{option_map}
+use Rattle.std.proofs.lemmas.List.{length-map}
+use Rattle.std.proofs.lemmas.Option.{slice_get_past, slice_get_read, slice_get-map}
+use Rattle.au_model.specs.Terms.Each.{Each}
+use Rattle.run_model.specs.Machine.Items.{Item}
+use Rattle.task_region.specs.DeferredItems.{item_of}
+use Rattle.task_region.specs.declared.deferred.DeferredItem.{DeferredItem}
+
+pub item_found : (xs : List DeferredItem) (n : ℕ) (x y : DeferredItem) → n < length xs → x ≡ get_or xs n x → x ≡ y → slice_get (map item_of xs) n ≡ Some (item_of y)
+item_found xs n x y lt e is = slice_get-map item_of xs n ∙ ap (option_map item_of) (slice_get_read xs (length xs) n x refl lt e ∙ ap Some is)
+
+pub no_item : (xs : List DeferredItem) (n : ℕ) → length xs ≤ n → slice_get (map item_of xs) n ≡ None
+no_item xs n le = slice_get_past (map item_of xs) n (let e = length-map xs item_of in omega (arith, e, le))
+
+pub item_holds : (P : Item ℕ → Type 0) (items : List (Item ℕ)) (n : ℕ) (i : Item ℕ) → Each P items → slice_get items n ≡ Some i → P i
+item_holds P [] n i h e = absurd cc
+item_holds P (x ∷ items) zero i h e = subst P (let s : x ≡ i = cc in s) h.0
+item_holds P (x ∷ items) (suc n) i h e = item_holds P items n i h.1 e
+
+pub items_from : (f : Item ℕ → Item ℕ) (items : List (Item ℕ)) (n : ℕ) (i : Item ℕ) → slice_get items n ≡ Some i → drop n (map f items) ≡ f i ∷ drop (suc n) (map f items)
+items_from f [] n i e = absurd cc
+items_from f (x ∷ items) zero i e = ap (λ y. f y ∷ map f items) (let s : x ≡ i = cc in s)
+items_from f (x ∷ items) (suc n) i e = items_from f items n i e
+
+pub nothing_from : (f : Item ℕ → Item ℕ) (items : List (Item ℕ)) (n : ℕ) → slice_get items n ≡ None → drop n (map f items) ≡ []
+nothing_from f [] zero e = refl
+nothing_from f [] (suc n) e = refl
+nothing_from f (x ∷ items) zero e = absurd cc
+nothing_from f (x ∷ items) (suc n) e = nothing_from f items n e

@@ -1,0 +1,5 @@
+mod FloorLemmas
+mod LoadLemmas
+mod StartLemmas
+mod FoundLemmas
+mod DeferredLemmas

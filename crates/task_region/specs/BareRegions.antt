@@ -1,0 +1,20 @@
+-- A region over a bare floor: its oldest choice points are the ends of the floor.
+use Rattle.std.specs.Prelude.{◌≡◌, ◌≤◌, ◌<◌, ℕ, List, length}
+use Rattle.au_model.specs.Terms.Named.{NamedTerm}
+use Rattle.region_split.specs.ChoicePoints.{height_of_cut}
+use Rattle.region_split.specs.Regions.{RegionView, entries_of, heights_of}
+use Rattle.region_floor.specs.BareFloors.{bare_floor}
+
+-- so many of the oldest choice points stand for one entry each: cuts to them are those to heights of the floor, and no others are
+pub record IsOverFloor (floor : ℕ) (r : RegionView) : Type 0 where
+  pub many : floor ≤ length r.choices
+  pub below : (named : List NamedTerm) (cut : ℕ) → cut ≤ floor → height_of_cut (heights_of named r) cut ≡ cut
+  pub above : (named : List NamedTerm) (cut : ℕ) → floor ≤ cut → cut ≤ length r.choices → floor ≤ height_of_cut (heights_of named r) cut
+
+-- a floor of so many ends was put into a region that had no choice point
+pub record LaysFloor (old new : RegionView) (floor : ℕ) : Type 0 where
+  pub entries : (named : List NamedTerm) → entries_of named new ≡ bare_floor floor
+  pub below : (named : List NamedTerm) (cut : ℕ) → cut < floor → height_of_cut (heights_of named new) cut ≡ cut
+  pub many : length new.choices ≡ floor
+  pub text : new.text ≡ old.text
+  pub now : new.store.now ≡ old.store.now

@@ -1,0 +1,20 @@
+-- The items that a task's alternative had when it was handed out.
+use Rattle.std.specs.Prelude.{ℕ, ◌≤◌, ◌<◌}
+use Rattle.au_term.specs.Term.{var_bound}
+use Rattle.run_model.specs.Machine.Items.{Item, GoalItem, CatchMark, CollectMark, RemovalItem}
+use Rattle.task_region.specs.declared.deferred.DeferredItem.{DeferredItem}
+use Rattle.task_region.specs.declared.deferred.DeferredItem.TheVariants.{Goal, CatchEnd, Collect, Removal}
+
+-- the item that one is
+abbrev pub item_of : DeferredItem → Item ℕ
+item_of (Goal term cut) = GoalItem term cut
+item_of (CatchEnd over) = CatchMark over
+item_of (Collect template over) = CollectMark template over
+item_of (Removal number) = RemovalItem number
+
+-- its variables are so many that were there, its scope is that of the floor or one of its nodes, and its mark is one of these
+abbrev pub IsDeferredOver : ℕ → ℕ → Item ℕ → Type 0
+IsDeferredOver variables floor (GoalItem t h) = (var_bound t ≤ variables) × (h ≤ floor)
+IsDeferredOver variables floor (CatchMark h) = h < floor
+IsDeferredOver variables floor (CollectMark t h) = (var_bound t ≤ variables) × (h < floor)
+IsDeferredOver variables floor (RemovalItem number) = Unit {0}

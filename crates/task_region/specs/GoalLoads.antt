@@ -1,0 +1,70 @@
+-- What is deferred and comes next.
+use Rattle.std.specs.Prelude.{◌≡◌, ℕ, List, [], ◌∷◌, length, Some, None, slice_get}
+use Rattle.au_term.specs.Term.{Term}
+use Rattle.au_model.specs.Terms.Each.{Each}
+use Rattle.au_model.specs.Terms.Named.{NamedTerm}
+use Rattle.au_model.specs.Terms.Substitutions.{resolve}
+use Rattle.run_model.specs.Machine.Items.{Item, GoalItem, CollectMark, RemovalItem, Continuation, before, resolve_continuation}
+use Rattle.run_model.specs.Machine.Entries.{PlainEntry}
+use Rattle.tree_model.specs.Nodes.{WorldGate}
+use Rattle.region_split.specs.ChoicePoints.{height_of_cut}
+use Rattle.region_split.specs.Regions.{RegionView, standing, heights_of, position_entry, IsPositionIn}
+use Rattle.region_split.specs.declared.frame.Position.{Position}
+use Rattle.region_floor.specs.RegionRuns.{RegionRun, StandsAfter, StopsAt, ComesToResult}
+use Rattle.task_region.specs.DeferredItems.{IsDeferredOver}
+use Rattle.task_region.specs.BareRegions.{IsOverFloor}
+use Rattle.task_region.specs.TaskViews.{position_stack, deferred_stack}
+use Rattle.task_region.specs.declared.loading.AfterDeferred.{AfterDeferred}
+use Rattle.task_region.specs.declared.loading.AfterDeferred.TheVariants.{GoesOn, Answer, Result, Removal}
+
+-- nothing left to do now, but with these named terms
+abbrev pub nothing_here : List NamedTerm → RegionView → Continuation ℕ
+nothing_here named r = resolve_continuation r.store.now.bound (record { items = []; named = named; next = r.store.now.next })
+
+-- these items are left at a position, and the choice points stand for what they stood for
+pub record LeavesItems (old new : RegionView) (items : List ℕ → List (Item ℕ)) (p : Position) : Type 0 where
+  pub position : IsPositionIn new p
+  pub entry : (named : List NamedTerm) → position_entry named new p ≡ PlainEntry (before (items (heights_of named old)) (nothing_here named old))
+  pub stands : (named : List NamedTerm) → standing named new ≡ standing named old
+  pub choices : new.choices ≡ old.choices
+  pub text : new.text ≡ old.text
+  pub next : new.store.now.next ≡ old.store.now.next
+
+-- what is deferred from a number on, and before that a goal as it is now
+abbrev pub rest_items : ℕ → List ℕ → List (Item ℕ)
+rest_items number heights = RemovalItem number ∷ []
+
+abbrev pub loaded_items : RegionView → Term → ℕ → ℕ → List ℕ → List (Item ℕ)
+loaded_items r goal cut number heights = GoalItem (resolve r.store.now.bound goal) (height_of_cut heights cut) ∷ RemovalItem number ∷ []
+
+-- a run has come to what it defers from a number on
+pub record ComesToDeferred (r : RegionRun) (k : ℕ) (named : List NamedTerm) (here : RegionView) (number : ℕ) (after : Position) : Type 0 where
+  pub named_are : r.deferred.named ≡ length named
+  pub over : IsOverFloor (length r.levels) here
+  pub scoped : Each (IsDeferredOver here.store.now.next (length r.levels)) r.deferred.items
+  pub stands : StandsAfter r k (deferred_stack named r.deferred.items here number after)
+
+-- a goal or the end of what a catch guards was taken up, and the run goes on where it was; or the run stops, since nothing is deferred from
+-- there on, or at a result for a findall of the branch, or at a removal
+abbrev pub DeferredTaken : RegionRun → ℕ → List NamedTerm → RegionView → RegionView → ℕ → Position → AfterDeferred → Type 0
+DeferredTaken r k named old new number after (GoesOn p) = StandsAfter r k (position_stack named r.deferred.items new p)
+DeferredTaken r k named old new number after Answer = StopsAt r k (deferred_stack named r.deferred.items old number after) WorldGate
+DeferredTaken r k named old new number after Result = ComesToResult r k (deferred_stack named r.deferred.items old number after)
+DeferredTaken r k named old new number after (Removal clause) = StopsAt r k (deferred_stack named r.deferred.items old number after) WorldGate
+
+-- where the run stops, this is the number's item, and nothing has changed
+abbrev pub IsDeferredThere : RegionView → RegionView → List (Item ℕ) → ℕ → AfterDeferred → Type 0
+IsDeferredThere old new items number (GoesOn p) = IsPositionIn new p
+IsDeferredThere old new items number Answer = (slice_get items number ≡ None) × (new ≡ old)
+IsDeferredThere old new items number Result = ((result : Term) × (h : ℕ) × (slice_get items number ≡ Some (CollectMark result h))) × (new ≡ old)
+IsDeferredThere old new items number (Removal clause) = (slice_get items number ≡ Some (RemovalItem clause)) × (new ≡ old)
+
+-- what is deferred under a number was taken up
+pub record TakesDeferred (old new : RegionView) (items : List (Item ℕ)) (number : ℕ) (reached : AfterDeferred) : Type 0 where
+  pub taken : (r : RegionRun) (k : ℕ) (named : List NamedTerm) (after : Position) → r.deferred.items ≡ items → ComesToDeferred r k named old number after
+      → DeferredTaken r k named old new number after reached
+  pub there : IsDeferredThere old new items number reached
+  pub stands : (named : List NamedTerm) → standing named new ≡ standing named old
+  pub choices : new.choices ≡ old.choices
+  pub text : new.text ≡ old.text
+  pub next : new.store.now.next ≡ old.store.now.next

@@ -1,0 +1,5 @@
+pub mod DeferredItems
+pub mod BareRegions
+pub mod TaskViews
+pub mod TaskStarts
+pub mod GoalLoads

@@ -1,0 +1,13 @@
+//! The region of a task: what a worker was handed, run by itself over a bare floor. Under its own choice points stands the
+//! end of a query for each node of its branch, and one item stands for what its alternative had left to do, which is loaded
+//! goal by goal where it comes next.
+#![tactic(auto)]
+
+mod deferred;
+mod floor;
+mod loading;
+mod task;
+
+pub use deferred::DeferredItem;
+pub use loading::{AfterDeferred, take_deferred};
+pub use task::TaskRegion;
