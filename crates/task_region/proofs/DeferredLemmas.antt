@@ -66,7 +66,7 @@ module _ (r : RegionRun) (k : ℕ) (named : List NamedTerm) (old : RegionView) (
   goal_taken new p term cut e l =
       let goal = resolve old.store.now.bound term in
       let one : number + 1 ≡ suc number = omega arith in
-      let height = w.over.below all cut (scoped (GoalItem term cut) e).1 in
+      let height = w.over.below cut (scoped (GoalItem term cut) e).1 in
       let left = ap₂ (λ (x : Entry) xs. x ∷ xs) (l.entry all) (ap (λ (st : Standing). st.entries) (l.stands all)) in
       subst (StandsAfter r k)
       (sym (left ∙ (ap₂ (λ h n. with_goal goal h n (nothing_here all old)) height one ∙ ap (with_goal goal cut (suc number)) f_is)))

@@ -56,27 +56,28 @@ module _ (old r new : RegionView) (count : ℕ) (nothing : Position) (w : LaysFl
   }
 
 -- a region that has its floor alone
-pub over_floor : (old r : RegionView) (floor scope : ℕ) → LaysFloor old r floor → scope ≡ length r.choices
-    → ((named : List NamedTerm) → height_of_cut (heights_of named r) scope ≡ length (entries_of named r)) → IsOverFloor floor r
-over_floor old r floor scope w count top = record {
-  many = let m = w.many in omega (arith, m);
-  below = λ named cut le. go named cut le (cases_lt cut floor);
-  above = λ named cut ge le. let m = w.many in let h = whole named in subst (λ n. floor ≤ height_of_cut (heights_of named r) n) (let e : floor ≡ cut = omega (arith, m, ge, le) in e) (omega (arith, h));
-}
-  where
-    whole : (named : List NamedTerm) → height_of_cut (heights_of named r) floor ≡ floor
-    whole named =
-        ap (height_of_cut (heights_of named r)) (sym (count ∙ w.many)) ∙ (top named ∙ (ap length (w.entries named) ∙ bare-size floor))
+module _ (old r : RegionView) (floor scope : ℕ) (w : LaysFloor old r floor) (count : scope ≡ length r.choices) (named : List NamedTerm)
+    (top : height_of_cut (heights_of named r) scope ≡ length (entries_of named r)) where
+  whole : height_of_cut (heights_of named r) floor ≡ floor
+  whole = ap (height_of_cut (heights_of named r)) (sym (count ∙ w.many)) ∙ (top ∙ (ap length (w.entries named) ∙ bare-size floor))
 
-    go : (named : List NamedTerm) (cut : ℕ) → cut ≤ floor → (cut < floor) ⊎ (floor ≤ cut) → height_of_cut (heights_of named r) cut ≡ cut
-    go named cut le (inl lt) = w.below named cut lt
-    go named cut le (inr ge) = subst (λ n. height_of_cut (heights_of named r) n ≡ n) (let e : floor ≡ cut = omega (arith, le, ge) in e) (whole named)
+  below_all : (cut : ℕ) → cut ≤ floor → (cut < floor) ⊎ (floor ≤ cut) → height_of_cut (heights_of named r) cut ≡ cut
+  below_all cut le (inl lt) = w.below named cut lt
+  below_all cut le (inr ge) = subst (λ n. height_of_cut (heights_of named r) n ≡ n) (let e : floor ≡ cut = omega (arith, le, ge) in e) whole
+
+  pub over_floor : IsOverFloor floor named r
+  over_floor = record {
+    many = let m = w.many in omega (arith, m);
+    below = λ cut le. below_all cut le (cases_lt cut floor);
+    above = λ cut ge le.
+        let m = w.many in
+        subst (λ n. floor ≤ height_of_cut (heights_of named r) n) (let e : floor ≡ cut = omega (arith, m, ge, le) in e) (let h = whole in omega (arith, h));
+  }
 
 -- what stands for the same stands over the same floor
-pub over_stays : (r new : RegionView) (floor : ℕ) → IsOverFloor floor r → ((named : List NamedTerm) → standing named new ≡ standing named r) → new.choices ≡ r.choices → IsOverFloor floor new
-over_stays r new floor o stands choices = record {
+pub over_stays : (r new : RegionView) (floor : ℕ) (named : List NamedTerm) → IsOverFloor floor named r → standing named new ≡ standing named r → new.choices ≡ r.choices → IsOverFloor floor named new
+over_stays r new floor named o stands choices = record {
   many = let e = ap length choices in let m = o.many in omega (arith, e, m);
-  below = λ named cut le. ap (λ (st : Standing). height_of_cut st.heights cut) (stands named) ∙ o.below named cut le;
-  above = λ named cut ge le.
-      subst (λ (st : Standing). floor ≤ height_of_cut st.heights cut) (sym (stands named)) (o.above named cut ge (let e = ap length choices in omega (arith, e, le)));
+  below = λ cut le. ap (λ (st : Standing). height_of_cut st.heights cut) stands ∙ o.below cut le;
+  above = λ cut ge le. subst (λ (st : Standing). floor ≤ height_of_cut st.heights cut) (sym stands) (o.above cut ge (let e = ap length choices in omega (arith, e, le)));
 }

@@ -3,3 +3,5 @@ mod LoadLemmas
 mod StartLemmas
 mod FoundLemmas
 mod DeferredLemmas
+mod ChoiceEntryLemmas
+mod EngineLemmas

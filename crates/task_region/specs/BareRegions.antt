@@ -6,10 +6,10 @@ use Rattle.region_split.specs.Regions.{RegionView, entries_of, heights_of}
 use Rattle.region_floor.specs.BareFloors.{bare_floor}
 
 -- so many of the oldest choice points stand for one entry each: cuts to them are those to heights of the floor, and no others are
-pub record IsOverFloor (floor : ℕ) (r : RegionView) : Type 0 where
+pub record IsOverFloor (floor : ℕ) (named : List NamedTerm) (r : RegionView) : Type 0 where
   pub many : floor ≤ length r.choices
-  pub below : (named : List NamedTerm) (cut : ℕ) → cut ≤ floor → height_of_cut (heights_of named r) cut ≡ cut
-  pub above : (named : List NamedTerm) (cut : ℕ) → floor ≤ cut → cut ≤ length r.choices → floor ≤ height_of_cut (heights_of named r) cut
+  pub below : (cut : ℕ) → cut ≤ floor → height_of_cut (heights_of named r) cut ≡ cut
+  pub above : (cut : ℕ) → floor ≤ cut → cut ≤ length r.choices → floor ≤ height_of_cut (heights_of named r) cut
 
 -- a floor of so many ends was put into a region that had no choice point
 pub record LaysFloor (old new : RegionView) (floor : ℕ) : Type 0 where

@@ -13,7 +13,7 @@ use Rattle.region_split.specs.declared.frame.Position.{Position}
 use Rattle.region_floor.specs.RegionRuns.{RegionRun, StandsAfter, StopsAt, ComesToResult}
 use Rattle.task_region.specs.DeferredItems.{IsDeferredOver}
 use Rattle.task_region.specs.BareRegions.{IsOverFloor}
-use Rattle.task_region.specs.TaskViews.{position_stack, deferred_stack}
+use Rattle.task_region.specs.TaskViews.{carried, position_stack, deferred_stack}
 use Rattle.task_region.specs.declared.loading.AfterDeferred.{AfterDeferred}
 use Rattle.task_region.specs.declared.loading.AfterDeferred.TheVariants.{GoesOn, Answer, Result, Removal}
 
@@ -40,7 +40,7 @@ loaded_items r goal cut number heights = GoalItem (resolve r.store.now.bound goa
 -- a run has come to what it defers from a number on
 pub record ComesToDeferred (r : RegionRun) (k : ℕ) (named : List NamedTerm) (here : RegionView) (number : ℕ) (after : Position) : Type 0 where
   pub named_are : r.deferred.named ≡ length named
-  pub over : IsOverFloor (length r.levels) here
+  pub over : IsOverFloor (length r.levels) (carried named r.deferred.items) here
   pub scoped : Each (IsDeferredOver here.store.now.next (length r.levels)) r.deferred.items
   pub stands : StandsAfter r k (deferred_stack named r.deferred.items here number after)
 

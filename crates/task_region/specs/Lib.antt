@@ -3,3 +3,4 @@ pub mod BareRegions
 pub mod TaskViews
 pub mod TaskStarts
 pub mod GoalLoads
+pub mod EngineSteps

@@ -1,5 +1,6 @@
 //! The floor of a region.
-ghost use Rattle.std.specs.Prelude.{◌≡◌, OnOk, length};
+ghost use Rattle.std.specs.Prelude.{◌≡◌, OnOk, List, length};
+ghost use Rattle.au_model.specs.Terms.Named.{NamedTerm};
 ghost use Rattle.task_region.specs.BareRegions.{IsOverFloor, LaysFloor};
 
 use au_term::NoMemory;
@@ -9,7 +10,7 @@ use region_split::{Alternatives, Region};
 pub(crate) fn lay_floor(region: &mut Region, count: u32) -> Result<(), NoMemory>
     requires none { length region.old.choices ≡ 0 }
     ensures lays { OnOk result (LaysFloor region.old region.new count) }
-    ensures over { OnOk result (IsOverFloor count region.new) }
+    ensures over { OnOk result ((named : List NamedTerm) → IsOverFloor count named region.new) }
 {
     for _end in 0..count {
         let nothing = region.nothing_left();

@@ -5,6 +5,7 @@
 
 mod deferred;
 mod floor;
+pub mod laws;
 mod loading;
 mod task;
 

@@ -13,4 +13,5 @@ loop-end-preserved c =
 pub returns-clause-over : goal.returns-clause-over
 returns-clause-over c =
     let done : c.loop-end._end ≡ c.args.count = omega arith in
-    over_floor c.args.region.now c.loop-end.region c.args.count c.in_ok-_scope._scope (subst (LaysFloor c.args.region.now c.loop-end.region) done c.loop-end.invariant) c.in_ok-_scope.ensures.count c.in_ok-_scope.ensures.height
+    let lays = subst (LaysFloor c.args.region.now c.loop-end.region) done c.loop-end.invariant in
+    λ named. over_floor c.args.region.now c.loop-end.region c.args.count c.in_ok-_scope._scope lays c.in_ok-_scope.ensures.count named (c.in_ok-_scope.ensures.height named)

@@ -24,7 +24,7 @@ returns c =
     record {
       starts = record {
         stands = stands_at_start c.args.region r new c.args.floor items c.in_ok-start.start lays leaves;
-        over = over_stays r new c.args.floor c.in_ok-lay_floor.ensures.over leaves.stands leaves.choices;
+        over = λ named. over_stays r new c.args.floor named (c.in_ok-lay_floor.ensures.over named) (leaves.stands named) leaves.choices;
         floor_is = refl;
         deferred = refl;
         variables = c.next-variables.ensures.next ∙ ap (λ (st : StoreView). st.now.next) c.store.ensures.store;

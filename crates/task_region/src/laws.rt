@@ -1,0 +1,14 @@
+//! Laws of the engine over a bare floor: each function does nothing, and its contract is the law.
+ghost use Rattle.task_region.specs.EngineSteps.{LookingStands, InferenceStands, FloorCutStops};
+
+/// What lies ahead of a region stands where its run was.
+pub fn looking_ahead_stands()
+    ensures { LookingStands }
+{}
+
+/// What the engine leaves of a goal stands where the run is one inference later, or stops where the run does; a cut to the
+/// floor stops the run.
+pub fn inferences_stand()
+    ensures inference { InferenceStands }
+    ensures cut { FloorCutStops }
+{}
