@@ -5,3 +5,4 @@ mod FoundLemmas
 mod DeferredLemmas
 mod ChoiceEntryLemmas
 mod EngineLemmas
+mod EndLemmas

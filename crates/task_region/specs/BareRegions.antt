@@ -1,9 +1,15 @@
 -- A region over a bare floor: its oldest choice points are the ends of the floor.
-use Rattle.std.specs.Prelude.{◌≡◌, ◌≤◌, ◌<◌, ℕ, List, length}
+use Rattle.std.specs.Prelude.{◌≡◌, ◌≤◌, ◌<◌, ◌⊎◌, ℕ, List, [], ◌∷◌, length}
+use Rattle.au_model.specs.Terms.Each.{Each}
 use Rattle.au_model.specs.Terms.Named.{NamedTerm}
+use Rattle.run_model.specs.Machine.Entries.{Entry}
+use Rattle.tree_model.specs.Levels.{Level}
 use Rattle.region_split.specs.ChoicePoints.{height_of_cut}
 use Rattle.region_split.specs.Regions.{RegionView, entries_of, heights_of}
-use Rattle.region_floor.specs.BareFloors.{bare_floor}
+use Rattle.region_split.specs.declared.choice.Alternatives.{Alternatives}
+use Rattle.region_split.specs.declared.choice.Alternatives.TheVariants.{Clauses, Solutions, Elsewhere, Catch, Findall, QueryEnd}
+use Rattle.region_split.specs.declared.choice.ChoicePoint.{ChoicePoint}
+use Rattle.region_floor.specs.BareFloors.{bare_floor, bare_stack, AreOwn}
 
 -- so many of the oldest choice points stand for one entry each: cuts to them are those to heights of the floor, and no others are
 pub record IsOverFloor (floor : ℕ) (named : List NamedTerm) (r : RegionView) : Type 0 where
@@ -18,3 +24,27 @@ pub record LaysFloor (old new : RegionView) (floor : ℕ) : Type 0 where
   pub many : length new.choices ≡ floor
   pub text : new.text ≡ old.text
   pub now : new.store.now ≡ old.store.now
+
+-- the end of a query
+abbrev pub IsEnd : Alternatives → Type 0
+IsEnd (Clauses goal clause left) = ⊥
+IsEnd (Solutions left) = ⊥
+IsEnd Elsewhere = ⊥
+IsEnd (Catch catcher recovery) = ⊥
+IsEnd (Findall list results) = ⊥
+IsEnd QueryEnd = Unit {0}
+
+abbrev pub IsNoEnd : ChoicePoint → Type 0
+IsNoEnd c = IsEnd c.alternatives → ⊥
+
+-- the ends of queries are under all other choice points
+abbrev pub AreEndsOldest : List ChoicePoint → Type 0
+AreEndsOldest [] = Unit {0}
+AreEndsOldest (c ∷ cs) = (IsEnd c.alternatives × AreEndsOldest cs) ⊎ Each IsNoEnd (c ∷ cs)
+
+-- and so they are the floor
+abbrev pub EndsAreFloor : Type 0
+EndsAreFloor =
+    (named : List NamedTerm) (here : RegionView) (levels : List Level) (own : List Entry) → AreEndsOldest here.choices
+    → length here.store.marks ≡ length here.choices → AreOwn (length levels) own → entries_of named here ≡ bare_stack levels own
+    → IsOverFloor (length levels) named here

@@ -1,4 +1,5 @@
 //! Laws of the engine over a bare floor: each function does nothing, and its contract is the law.
+ghost use Rattle.task_region.specs.BareRegions.{EndsAreFloor};
 ghost use Rattle.task_region.specs.EngineSteps.{LookingStands, InferenceStands, FloorCutStops};
 
 /// What lies ahead of a region stands where its run was.
@@ -11,4 +12,9 @@ pub fn looking_ahead_stands()
 pub fn inferences_stand()
     ensures inference { InferenceStands }
     ensures cut { FloorCutStops }
+{}
+
+/// Where the ends of queries are under all other choice points, those of a bare floor are the oldest ones.
+pub fn ends_are_the_floor()
+    ensures { EndsAreFloor }
 {}
