@@ -6,3 +6,4 @@ mod DeferredLemmas
 mod ChoiceEntryLemmas
 mod EngineLemmas
 mod EndLemmas
+mod CutGoalLemmas

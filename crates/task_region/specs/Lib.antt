@@ -4,3 +4,4 @@ pub mod TaskViews
 pub mod TaskStarts
 pub mod GoalLoads
 pub mod EngineSteps
+pub mod CutGoals

@@ -1,5 +1,6 @@
 //! Laws of the engine over a bare floor: each function does nothing, and its contract is the law.
 ghost use Rattle.task_region.specs.BareRegions.{EndsAreFloor};
+ghost use Rattle.task_region.specs.CutGoals.{CutsAreNamed, NamedCutsCut};
 ghost use Rattle.task_region.specs.EngineSteps.{LookingStands, InferenceStands, FloorCutStops};
 
 /// What lies ahead of a region stands where its run was.
@@ -17,4 +18,10 @@ pub fn inferences_stand()
 /// Where the ends of queries are under all other choice points, those of a bare floor are the oldest ones.
 pub fn ends_are_the_floor()
     ensures { EndsAreFloor }
+{}
+
+/// The goals that cut to their scope are those of its name with no argument.
+pub fn cuts_have_a_name()
+    ensures named { CutsAreNamed }
+    ensures cuts { NamedCutsCut }
 {}
