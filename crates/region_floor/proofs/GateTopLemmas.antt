@@ -13,7 +13,7 @@ use Rattle.tree_model.specs.Floors.{floor_of, node_of}
 use Rattle.tree_model.specs.Gates.{goal_gate, item_gate, gate_on}
 use Rattle.tree_model.specs.Legality.{gives_result}
 use Rattle.tree_model.specs.PrivateRuns.{own_free_step, own_free_steps, one_more}
-use Rattle.region_floor.specs.Deferred.{Deferred, deferred_now, joined_items, joined, joined_entry}
+use Rattle.region_floor.specs.Deferred.{Deferred, deferred_now, joined_items, joined_continuation, joined_entry}
 use Rattle.region_floor.specs.BareFloors.{true_stack, true_rest, bare_stack, RestsPrivately}
 use Rattle.region_floor.specs.GateLaws.{WorldGoalsAreGates, HaltsAreGates, CutsAreGates, deferred_entries, HasDeferred, AnswersAreGates, RemovalsAreGates, GoalsLoad, CatchMarksSkip, GivesResult, ResultsAreGiven}
 use Rattle.region_floor.proofs.FloorSizeLemmas.{floor-size}
@@ -21,14 +21,14 @@ use Rattle.region_floor.proofs.FloorSizeLemmas.{floor-size}
 -- goals
 pub world_goals_are_gates : WorldGoalsAreGates
 world_goals_are_gates clauses d levels t goal e =
-    ap (λ o. goal_gate levels o t.height (joined d t.after) (true_stack d levels t.below)) e
+    ap (λ o. goal_gate levels o t.height (joined_continuation d t.after) (true_stack d levels t.below)) e
 
 pub halts_are_gates : HaltsAreGates
-halts_are_gates clauses d levels t k e = ap (λ o. goal_gate levels o t.height (joined d t.after) (true_stack d levels t.below)) e
+halts_are_gates clauses d levels t k e = ap (λ o. goal_gate levels o t.height (joined_continuation d t.after) (true_stack d levels t.below)) e
 
 pub cuts_are_gates : CutsAreGates
 cuts_are_gates clauses d levels t e l =
-    ap (λ o. goal_gate levels o t.height (joined d t.after) (true_stack d levels t.below)) e
+    ap (λ o. goal_gate levels o t.height (joined_continuation d t.after) (true_stack d levels t.below)) e
     ∙ ap (λ b. cond b (Some (CutGate (node_of levels t.height))) None) (less t.height (length levels) l)
 
 -- what is deferred
@@ -59,7 +59,7 @@ module _ (d : Deferred) (levels : List Level) (k : ℕ) (f : Continuation ℕ) (
   floor = floor_of levels
 
   abbrev stepped : List (Item ℕ) → List Entry
-  stepped l = own_free_step (without_marks l) (with_items l (joined d f)) rest floor (own_free_steps floor (length rest))
+  stepped l = own_free_step (without_marks l) (with_items l (joined_continuation d f)) rest floor (own_free_steps floor (length rest))
 
   items-are : joined_items now (RemovalItem k ∷ f.items) ≡ items
   items-are = ap (λ l. drop k now ++ joined_items now l) h.are_own.0 ∙ append-nil (drop k now) ∙ h.deferred
@@ -70,9 +70,9 @@ module _ (d : Deferred) (levels : List Level) (k : ℕ) (f : Continuation ℕ) (
       ap (λ j. drop (suc k) now ++ joined_items now j) h.are_own.0 ∙ append-nil (drop (suc k) now) ∙ dropped k now i l (h.deferred ∙ e)
 
   gate-is : (clauses : List Clause) → gate_on clauses levels (true_stack d levels (deferred_entries k f es))
-      ≡ item_gate clauses levels (without_marks items) (joined d (before (RemovalItem k ∷ []) f)) (true_stack d levels es)
+      ≡ item_gate clauses levels (without_marks items) (joined_continuation d (before (RemovalItem k ∷ []) f)) (true_stack d levels es)
   gate-is clauses =
-      ap (λ l. item_gate clauses levels (without_marks l) (joined d (before (RemovalItem k ∷ []) f)) (true_stack d levels es)) items-are
+      ap (λ l. item_gate clauses levels (without_marks l) (joined_continuation d (before (RemovalItem k ∷ []) f)) (true_stack d levels es)) items-are
 
   goal-loads : (goal : Term) (n : ℕ) (l : List (Item ℕ)) → items ≡ GoalItem goal n ∷ l
       → RestsPrivately d levels (deferred_entries k f es)
@@ -91,16 +91,16 @@ module _ (d : Deferred) (levels : List Level) (k : ℕ) (f : Continuation ℕ) (
     entries = refl;
     are_own = h.are_own;
     rest = ap stepped (items-are ∙ e)
-        ∙ skipped (without_marks l) (CatchMark n ∷ l) l (joined d f) rest floor (own_free_steps floor (length rest))
+        ∙ skipped (without_marks l) (CatchMark n ∷ l) l (joined_continuation d f) rest floor (own_free_steps floor (length rest))
         ∙ ap stepped (sym (items-after (CatchMark n) l e));
   }
 
   -- where no free step is left
   abbrev is_rest : List (Item ℕ) → Type 0
-  is_rest l = stepped l ≡ PlainEntry (with_items l (joined d f)) ∷ rest
+  is_rest l = stepped l ≡ PlainEntry (with_items l (joined_continuation d f)) ∷ rest
 
   at-rest : is_rest items → true_rest d levels (deferred_entries k f es) ≡ map (joined_entry d) (deferred_entries k f es)
-  at-rest e = ap stepped items-are ∙ e ∙ sym (ap (λ j. PlainEntry (with_items j (joined d f)) ∷ rest) items-are)
+  at-rest e = ap stepped items-are ∙ e ∙ sym (ap (λ j. PlainEntry (with_items j (joined_continuation d f)) ∷ rest) items-are)
 
   result-gives : (clauses : List Clause) (t : Term) (n : ℕ) (l : List (Item ℕ)) → items ≡ CollectMark t n ∷ l → n < length levels
       → GivesResult clauses d levels k f es
@@ -109,14 +109,14 @@ module _ (d : Deferred) (levels : List Level) (k : ℕ) (f : Continuation ℕ) (
       let under : nat_lt n (length floor) ≡ true = ap (nat_lt n) (floor-size levels) ∙ less n (length levels) low in
       let stays : true_rest d levels (deferred_entries k f es) ≡ map (joined_entry d) (deferred_entries k f es) =
       at-rest (subst is_rest (sym e)
-      (ap (λ b. cond b (PlainEntry (with_items (CollectMark t n ∷ l) (joined d f)) ∷ rest)
+      (ap (λ b. cond b (PlainEntry (with_items (CollectMark t n ∷ l) (joined_continuation d f)) ∷ rest)
       (own_free_steps floor (length rest) (collected (n - length floor) t rest))) under)) in
       record {
         rest = stays;
-        last = ap (λ j. one_more clauses levels (PlainEntry (with_items j (joined d f)) ∷ rest)) here;
+        last = ap (λ j. one_more clauses levels (PlainEntry (with_items j (joined_continuation d f)) ∷ rest)) here;
         gives = λ none. ap gives_result stays
-            ∙ ap (λ j. gives_result (PlainEntry (joined d (before (RemovalItem k ∷ []) f)) ∷ map (joined_entry d) j)) none
-            ∙ ap (λ j. gives_result (PlainEntry (with_items j (joined d f)) ∷ [])) here;
+            ∙ ap (λ j. gives_result (PlainEntry (joined_continuation d (before (RemovalItem k ∷ []) f)) ∷ map (joined_entry d) j)) none
+            ∙ ap (λ j. gives_result (PlainEntry (with_items j (joined_continuation d f)) ∷ [])) here;
       }
 
 pub answers_are_gates : AnswersAreGates

@@ -8,7 +8,7 @@ use Rattle.au_model.specs.Terms.Named.{NamedTerm}
 use Rattle.au_model.specs.Terms.Substitutions.{Substitution}
 use Rattle.run_model.specs.Machine.Items.{Item, GoalItem, CatchMark, CollectMark, RemovalItem, Continuation, resolve_item, resolve_named, resolve_continuation, goals_at, without_marks, before}
 use Rattle.run_model.specs.Machine.Heights.{test_items}
-use Rattle.region_floor.specs.Deferred.{Deferred, with_term, items_now, deferred_now, joined_items, joined, carried_term, all_deferred, deferring, IsBoundNow}
+use Rattle.region_floor.specs.Deferred.{Deferred, with_term, items_now, deferred_now, joined_items, joined_continuation, carried_term, all_deferred, deferring, IsBoundNow}
 
 -- goals in front stay there
 pub goals-joined : (now : List (Item ℕ)) (h : ℕ) (gs : List Term) (items : List (Item ℕ))
@@ -26,7 +26,7 @@ test-joined now n h condition thens items = go condition
     go (c ∷ cs) = ap (λ l. GoalItem c (suc n) ∷ l) (go cs)
 
 pub before-joined : (d : Deferred) (h : ℕ) (gs : List Term) (f : Continuation ℕ)
-    → joined d (before (goals_at h gs) f) ≡ before (goals_at h gs) (joined d f)
+    → joined_continuation d (before (goals_at h gs) f) ≡ before (goals_at h gs) (joined_continuation d f)
 before-joined d h gs f =
     ap (λ l. let c : Continuation ℕ = record { items = l; named = take d.named f.named; next = f.next } in c)
     (goals-joined (deferred_now d f) h gs f.items)
@@ -55,7 +55,7 @@ now-resolved s now (RemovalItem n ∷ items) =
     ∙ ap₂ ◌++◌ (sym (drop-map (resolve_item s) n now)) (now-resolved s now items)
 
 pub joined-resolved : (s : Substitution) (d : Deferred) (f : Continuation ℕ)
-    → resolve_continuation s (joined d f) ≡ joined d (resolve_continuation s f)
+    → resolve_continuation s (joined_continuation d f) ≡ joined_continuation d (resolve_continuation s f)
 joined-resolved s d f =
     let now : map (resolve_item s) (deferred_now d f) ≡ deferred_now d (resolve_continuation s f) =
     items-resolved s d.items (drop d.named f.named) ∙ ap (items_now d.items) (sym (drop-map (resolve_named s) d.named f.named)) in
@@ -71,7 +71,7 @@ all_items (CatchMark h ∷ items) = ap (λ l. CatchMark h ∷ l) (all_items item
 all_items (CollectMark t h ∷ items) = ap (λ l. CollectMark t h ∷ l) (all_items items)
 all_items (RemovalItem n ∷ items) = ap (λ l. RemovalItem n ∷ l) (all_items items)
 
-pub all_is_left : (f : Continuation ℕ) → joined (all_deferred f) (deferring f) ≡ f
+pub all_is_left : (f : Continuation ℕ) → joined_continuation (all_deferred f) (deferring f) ≡ f
 all_is_left f =
     ap₂ (λ l vs. let c : Continuation ℕ = record { items = l; named = vs; next = f.next } in c)
     (append-nil (deferred_now (all_deferred f) (deferring f))

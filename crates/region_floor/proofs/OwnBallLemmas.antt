@@ -21,7 +21,7 @@ use Rattle.tree_model.specs.Nodes.{BallGate}
 use Rattle.tree_model.specs.Levels.{Level}
 use Rattle.tree_model.specs.Floors.{floor_of}
 use Rattle.tree_model.specs.Gates.{ball_scope, is_caught_above, goal_gate}
-use Rattle.region_floor.specs.Deferred.{Deferred, with_term, items_now, deferred_now, joined_items, joined, joined_entry}
+use Rattle.region_floor.specs.Deferred.{Deferred, with_term, items_now, deferred_now, joined_items, joined_continuation, joined_entry}
 use Rattle.region_floor.specs.BareFloors.{bare_floor, AreOwnItems, AreOwn, IsOuterMark, goal_entries, bare_stack, true_stack, InfersPrivately}
 use Rattle.region_floor.specs.BallLaws.{BallsArePrivate, IsBallGate, BallsAreGates, BallsLand}
 use Rattle.region_floor.proofs.FloorSizeLemmas.{bare-size, floor-size, stack-size}
@@ -133,7 +133,7 @@ module _ (d : Deferred) (levels : List Level) (b : Term) (outer : Each (IsOuterM
   abbrev Landing : List Entry → List Entry → Type 0
   Landing st others = Lands st others ⊎ Falls st others
 
-  pub marks-fit : (f : Continuation ℕ) → AreOwnItems n f.items → MarksFit n (first_mark f.items) (first_mark (joined d f).items)
+  pub marks-fit : (f : Continuation ℕ) → AreOwnItems n f.items → MarksFit n (first_mark f.items) (first_mark (joined_continuation d f).items)
   marks-fit f o = own-fit n (deferred_now d f) f.items (now-outer n d.items (drop d.named f.named) outer) o
 
   abbrev recovering : Substitution → Term → Continuation ℕ → ℕ → Continuation ℕ
@@ -141,7 +141,7 @@ module _ (d : Deferred) (levels : List Level) (b : Term) (outer : Each (IsOuterM
 
   recovers : (o : Option Substitution) (r : Term) (f : Continuation ℕ) (own further others : List Entry) → AreOwnItems n f.items → AreOwn n own
       → Landing further others
-      → Landing (recovered o b r f (bare own) further) (recovered o b r (joined d f) (whole own) others)
+      → Landing (recovered o b r f (bare own) further) (recovered o b r (joined_continuation d f) (whole own) others)
   recovers None r f own further others i o below = below
   recovers (Some s) r f own further others i o below =
       let k = length (bare own) in
@@ -150,7 +150,7 @@ module _ (d : Deferred) (levels : List Level) (b : Term) (outer : Each (IsOuterM
         left = own;
         entries = refl;
         are_own = (resolved-own n s (GoalItem (call_of r) k ∷ f.items) i, o);
-        stands = ap (λ m. PlainEntry (recovering s r (joined d f) m) ∷ whole own) (stack-size d levels own)
+        stands = ap (λ m. PlainEntry (recovering s r (joined_continuation d f) m) ∷ whole own) (stack-size d levels own)
             ∙ ap (λ c. PlainEntry c ∷ whole own) (joined-resolved s d (with_next (f.next + copy_takes b) (before (GoalItem (call_of r) k ∷ []) f)));
       })
 
@@ -161,10 +161,10 @@ module _ (d : Deferred) (levels : List Level) (b : Term) (outer : Each (IsOuterM
 
   catches : (x : Bool) (c r : Term) (f : Continuation ℕ) (own : List Entry) (a z : Option ℕ) → AreOwnItems n f.items → AreOwn n own
       → MarksFit n a z → ((p q : Option ℕ) → MarksFit n p q → Landing (unwound b p (bare own)) (unwound b q (whole own)))
-      → Landing (at_catch x c r f a (bare own)) (at_catch x c r (joined d f) z (whole own))
+      → Landing (at_catch x c r f a (bare own)) (at_catch x c r (joined_continuation d f) z (whole own))
   catches true c r f own a z i o m below =
       recovers (unifier ((c, copied b f.next) ∷ [])) r f own (unwound b (first_mark f.items) (bare own))
-      (unwound b (first_mark (joined d f).items) (whole own)) i o (below (first_mark f.items) (first_mark (joined d f).items) (marks-fit f i))
+      (unwound b (first_mark (joined_continuation d f).items) (whole own)) i o (below (first_mark f.items) (first_mark (joined_continuation d f).items) (marks-fit f i))
   catches false c r f own a z i o m below = below a z m
 
   pub landing : (own : List Entry) → AreOwn n own → (p q : Option ℕ) → MarksFit n p q
@@ -180,12 +180,12 @@ module _ (d : Deferred) (levels : List Level) (b : Term) (outer : Each (IsOuterM
       let k = length (bare own) in
       let high : n ≤ k = omega (arith, length-append own (bare_floor n), bare-size n) in
       let same : is_height q (length (whole own)) ≡ is_height p k = ap (is_height q) (stack-size d levels own) ∙ height-fit n k p q high m in
-      subst (λ y. Landing (at_catch (is_height p k) c r f p (bare own)) (at_catch y c r (joined d f) q (whole own))) (sym same)
+      subst (λ y. Landing (at_catch (is_height p k) c r f p (bare own)) (at_catch y c r (joined_continuation d f) q (whole own))) (sym same)
       (catches (is_height p k) c r f own p q o.0 o.1 m (λ u v w. landing own o.1 u v w))
 
 pub balls_are_private : BallsArePrivate
 balls_are_private clauses d levels t b h r es e =
-    go (landing d levels b h.outer t.below h.outcome.are_own.1 (first_mark t.after.items) (first_mark (joined d t.after).items)
+    go (landing d levels b h.outer t.below h.outcome.are_own.1 (first_mark t.after.items) (first_mark (joined_continuation d t.after).items)
     (marks-fit d levels b h.outer t.after h.outcome.are_own.0))
   where
     high : (left : List Entry) → nat_le (length levels) (length (true_stack d levels left)) ≡ true
@@ -198,8 +198,8 @@ balls_are_private clauses d levels t b h r es e =
         test true k = refl
         test false k = let far = long in absurd (grind (arith, nat_tests))
 
-    go : Lands d levels b h.outer (after_reply (Ball b) t.after (bare_stack levels t.below)) (after_reply (Ball b) (joined d t.after) (true_stack d levels t.below))
-        ⊎ Falls d levels b h.outer (after_reply (Ball b) t.after (bare_stack levels t.below)) (after_reply (Ball b) (joined d t.after) (true_stack d levels t.below))
+    go : Lands d levels b h.outer (after_reply (Ball b) t.after (bare_stack levels t.below)) (after_reply (Ball b) (joined_continuation d t.after) (true_stack d levels t.below))
+        ⊎ Falls d levels b h.outer (after_reply (Ball b) t.after (bare_stack levels t.below)) (after_reply (Ball b) (joined_continuation d t.after) (true_stack d levels t.below))
         → InfersPrivately clauses d levels (goal_entries t) (PlainEntry r ∷ es)
     go (inl k) =
         inferred clauses d levels t (Replies (Ball b)) h.outcome.outcome
@@ -211,17 +211,17 @@ balls_are_private clauses d levels t b h r es e =
 
 pub balls_are_gates : BallsAreGates
 balls_are_gates clauses d levels t b h c e =
-    go (landing d levels b h.outer t.below h.outcome.are_own.1 (first_mark t.after.items) (first_mark (joined d t.after).items)
+    go (landing d levels b h.outer t.below h.outcome.are_own.1 (first_mark t.after.items) (first_mark (joined_continuation d t.after).items)
     (marks-fit d levels b h.outer t.after h.outcome.are_own.0))
   where
-    go : Lands d levels b h.outer (after_reply (Ball b) t.after (bare_stack levels t.below)) (after_reply (Ball b) (joined d t.after) (true_stack d levels t.below))
-        ⊎ Falls d levels b h.outer (after_reply (Ball b) t.after (bare_stack levels t.below)) (after_reply (Ball b) (joined d t.after) (true_stack d levels t.below))
+    go : Lands d levels b h.outer (after_reply (Ball b) t.after (bare_stack levels t.below)) (after_reply (Ball b) (joined_continuation d t.after) (true_stack d levels t.below))
+        ⊎ Falls d levels b h.outer (after_reply (Ball b) t.after (bare_stack levels t.below)) (after_reply (Ball b) (joined_continuation d t.after) (true_stack d levels t.below))
         → IsBallGate clauses d levels t b c
     go (inl k) = let both : ◌≡◌ {A = List Entry} (EndEntry c ∷ []) (bare_stack levels (PlainEntry k.after ∷ k.left)) = sym e ∙ k.entries in absurd cc
     go (inr k) =
         let both : ◌≡◌ {A = List Entry} (EndEntry c ∷ []) (EndEntry (Some (copied b 0)) ∷ []) = sym e ∙ k.entries in
         record {
           ball = cc;
-          gate = ap (λ o. goal_gate levels o t.height (joined d t.after) (true_stack d levels t.below)) h.outcome.outcome
-              ∙ ap (λ x. cond x None (Some (BallGate (ball_scope levels (after_reply (Ball b) (joined d t.after) (true_stack d levels t.below)))))) k.falls;
+          gate = ap (λ o. goal_gate levels o t.height (joined_continuation d t.after) (true_stack d levels t.below)) h.outcome.outcome
+              ∙ ap (λ x. cond x None (Some (BallGate (ball_scope levels (after_reply (Ball b) (joined_continuation d t.after) (true_stack d levels t.below)))))) k.falls;
         }

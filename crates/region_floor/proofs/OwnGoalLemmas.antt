@@ -19,7 +19,7 @@ use Rattle.tree_model.specs.Levels.{Level}
 use Rattle.tree_model.specs.Floors.{floor_of, node_of}
 use Rattle.tree_model.specs.Gates.{control_gate, goal_gate}
 use Rattle.tree_model.specs.PrivateRuns.{own_at_rest, own_part, own_after, if_no_gate, goal_alone}
-use Rattle.region_floor.specs.Deferred.{Deferred, deferred_now, joined, joined_entry}
+use Rattle.region_floor.specs.Deferred.{Deferred, deferred_now, joined_continuation, joined_entry}
 use Rattle.region_floor.specs.BareFloors.{bare_floor, AreOwnItems, AreOwn, IsOwnEntry, TopGoal, goal_entries, bare_stack, true_stack, InfersPrivately}
 use Rattle.region_floor.specs.PrivateLaws.{RemovesNothing, KeepsClauses, ControlsArePrivate, SolutionsArePrivate}
 use Rattle.region_floor.proofs.FloorSizeLemmas.{bare-size, stack-size, part-over}
@@ -34,12 +34,12 @@ pub record Leaves (d : Deferred) (levels : List Level) (bare whole : List Entry)
   pub stands : whole ≡ true_stack d levels left
 
 pub inferred : (clauses : List Clause) (d : Deferred) (levels : List Level) (t : TopGoal) (o : Outcome) → outcome_of clauses t.goal t.after.next ≡ o
-    → goal_gate levels o t.height (joined d t.after) (true_stack d levels t.below) ≡ None
-    → (bare : List Entry) → Leaves d levels bare (goal_alone o t.height (joined d t.after) (true_stack d levels t.below))
+    → goal_gate levels o t.height (joined_continuation d t.after) (true_stack d levels t.below) ≡ None
+    → (bare : List Entry) → Leaves d levels bare (goal_alone o t.height (joined_continuation d t.after) (true_stack d levels t.below))
     → InfersPrivately clauses d levels (goal_entries t) bare
 inferred clauses d levels t o e g bare k =
     let floor = floor_of levels in
-    let f = joined d t.after in
+    let f = joined_continuation d t.after in
     let es = true_stack d levels t.below in
     record {
       left = k.left;
@@ -81,13 +81,13 @@ module _ (d : Deferred) (levels : List Level) where
   bare-high : (own : List Entry) → n ≤ length (bare own)
   bare-high own = omega (arith, length-append own (bare_floor n), bare-size n)
 
-  goals_same : (h : ℕ) (gs : List Term) (f : Continuation ℕ) → goals_entry h gs (joined d f) ≡ joined_entry d (goals_entry h gs f)
+  goals_same : (h : ℕ) (gs : List Term) (f : Continuation ℕ) → goals_entry h gs (joined_continuation d f) ≡ joined_entry d (goals_entry h gs f)
   goals_same h gs f = ap PlainEntry (sym (before-joined d h gs f))
 
   -- control constructs
   cut_taken : (h : ℕ) (f : Continuation ℕ) (own : List Entry) → AreOwnItems n f.items → AreOwn n own → (b : Bool) → nat_lt h n ≡ b
       → cond b (Some (CutGate (node_of levels h))) None ≡ None
-      → Leaves d levels (after_control CutToScope h f (bare own)) (after_control CutToScope h (joined d f) (whole own))
+      → Leaves d levels (after_control CutToScope h f (bare own)) (after_control CutToScope h (joined_continuation d f) (whole own))
   cut_taken h f own i o true e g = absurd cc
   cut_taken h f own i o false e g =
       let high : n ≤ h = not_lt_by h n e in
@@ -98,19 +98,19 @@ module _ (d : Deferred) (levels : List Level) where
         left = PlainEntry f ∷ drop k own;
         entries = ap (λ l. PlainEntry f ∷ l) (drop-append-le k own (bare_floor n) few);
         are_own = (i, each-drop (IsOwnEntry n) k own o);
-        stands = ap (λ m. PlainEntry (joined d f) ∷ drop (m - h) (whole own)) (stack-size d levels own)
-            ∙ ap (λ l. PlainEntry (joined d f) ∷ l)
+        stands = ap (λ m. PlainEntry (joined_continuation d f) ∷ drop (m - h) (whole own)) (stack-size d levels own)
+            ∙ ap (λ l. PlainEntry (joined_continuation d f) ∷ l)
             (drop-append-le k (map (joined_entry d) own) (floor_of levels) (omega (arith, few, length-map own (joined_entry d)))
             ∙ ap (λ l. l ++ floor_of levels) (drop-map (joined_entry d) k own));
       }
 
   control_taken : (form : ControlForm) (h : ℕ) (f : Continuation ℕ) (own : List Entry) → AreOwnItems n f.items → AreOwn n own
-      → control_gate levels form h ≡ None → Leaves d levels (after_control form h f (bare own)) (after_control form h (joined d f) (whole own))
+      → control_gate levels form h ≡ None → Leaves d levels (after_control form h f (bare own)) (after_control form h (joined_continuation d f) (whole own))
   control_taken (GoesOnWith gs) h f own i o g = record {
     left = goals_entry (length (bare own)) gs f ∷ own;
     entries = refl;
     are_own = (goals-own n (length (bare own)) gs f.items i, o);
-    stands = ap (λ m. goals_entry m gs (joined d f) ∷ whole own) (stack-size d levels own)
+    stands = ap (λ m. goals_entry m gs (joined_continuation d f) ∷ whole own) (stack-size d levels own)
         ∙ ap (λ e. e ∷ whole own) (goals_same (length (bare own)) gs f);
   }
   control_taken (EitherOf gs others) h f own i o g = record {
@@ -123,10 +123,10 @@ module _ (d : Deferred) (levels : List Level) where
     left = PlainEntry (before (test_items (length (bare own)) h gs thens) f) ∷ goals_entry h others f ∷ own;
     entries = refl;
     are_own = (test-own n (length (bare own)) h gs thens f.items i, (goals-own n h others f.items i, o));
-    stands = ap (λ m. PlainEntry (before (test_items m h gs thens) (joined d f)) ∷ goals_entry h others (joined d f) ∷ whole own)
+    stands = ap (λ m. PlainEntry (before (test_items m h gs thens) (joined_continuation d f)) ∷ goals_entry h others (joined_continuation d f) ∷ whole own)
         (stack-size d levels own)
         ∙ ap₂ (λ a b. a ∷ b ∷ whole own)
-        (ap (λ l. PlainEntry (let c : Continuation ℕ = record { items = l; named = (joined d f).named; next = f.next } in c))
+        (ap (λ l. PlainEntry (let c : Continuation ℕ = record { items = l; named = (joined_continuation d f).named; next = f.next } in c))
         (sym (test-joined (deferred_now d f) (length (bare own)) h gs thens f.items)))
         (goals_same h others f);
   }
@@ -135,19 +135,19 @@ module _ (d : Deferred) (levels : List Level) where
     left = PlainEntry (before (guarded_goal (length (bare own)) goal ∷ CatchMark (length (bare own)) ∷ []) f) ∷ CatchEntry c r f ∷ own;
     entries = refl;
     are_own = ((bare-high own, i), (i, o));
-    stands = ap (λ m. PlainEntry (before (guarded_goal m goal ∷ CatchMark m ∷ []) (joined d f)) ∷ CatchEntry c r (joined d f) ∷ whole own)
+    stands = ap (λ m. PlainEntry (before (guarded_goal m goal ∷ CatchMark m ∷ []) (joined_continuation d f)) ∷ CatchEntry c r (joined_continuation d f) ∷ whole own)
         (stack-size d levels own);
   }
   control_taken (FindallOf t goal l) h f own i o g = record {
     left = PlainEntry (before (guarded_goal (length (bare own)) goal ∷ CollectMark t (length (bare own)) ∷ []) f) ∷ FindallEntry [] l f ∷ own;
     entries = refl;
     are_own = ((bare-high own, i), (i, o));
-    stands = ap (λ m. PlainEntry (before (guarded_goal m goal ∷ CollectMark t m ∷ []) (joined d f)) ∷ FindallEntry [] l (joined d f) ∷ whole own)
+    stands = ap (λ m. PlainEntry (before (guarded_goal m goal ∷ CollectMark t m ∷ []) (joined_continuation d f)) ∷ FindallEntry [] l (joined_continuation d f) ∷ whole own)
         (stack-size d levels own);
   }
 
   -- solutions
-  unified-joined : (o : Option Substitution) (f : Continuation ℕ) → unified o (joined d f) ≡ map (joined_entry d) (unified o f)
+  unified-joined : (o : Option Substitution) (f : Continuation ℕ) → unified o (joined_continuation d f) ≡ map (joined_entry d) (unified o f)
   unified-joined None f = refl
   unified-joined (Some s) f = ap (λ c. PlainEntry c ∷ []) (joined-resolved s d f)
 
@@ -158,7 +158,7 @@ module _ (d : Deferred) (levels : List Level) where
   abbrev going : ℕ → Continuation ℕ → Solution → Continuation ℕ
   going m f s = with_next (f.next + s.variables) (before (goals_at m s.goals) f)
 
-  going-joined : (m : ℕ) (f : Continuation ℕ) (s : Solution) → going m (joined d f) s ≡ joined d (going m f s)
+  going-joined : (m : ℕ) (f : Continuation ℕ) (s : Solution) → going m (joined_continuation d f) s ≡ joined_continuation d (going m f s)
   going-joined m f s = ap (with_next (f.next + s.variables)) (sym (before-joined d m s.goals f))
 
   solution-plain : (m : ℕ) (f : Continuation ℕ) (s : Solution) → RemovesNothing s → solution_entry m f s ≡ unified (unifier s.equations) (going m f s)
@@ -166,13 +166,13 @@ module _ (d : Deferred) (levels : List Level) where
       ap (λ r. unified (unifier s.equations) (with_next (f.next + s.variables) (before (goals_at m s.goals) (removing r f)))) e
 
   solution-joined : (m : ℕ) (f : Continuation ℕ) (s : Solution) → RemovesNothing s
-      → solution_entry m (joined d f) s ≡ map (joined_entry d) (solution_entry m f s)
+      → solution_entry m (joined_continuation d f) s ≡ map (joined_entry d) (solution_entry m f s)
   solution-joined m f s e =
-      solution-plain m (joined d f) s e ∙ ap (unified (unifier s.equations)) (going-joined m f s)
+      solution-plain m (joined_continuation d f) s e ∙ ap (unified (unifier s.equations)) (going-joined m f s)
       ∙ unified-joined (unifier s.equations) (going m f s) ∙ ap (map (joined_entry d)) (sym (solution-plain m f s e))
 
   solutions-joined : (m : ℕ) (f : Continuation ℕ) (ss : List Solution) → Each RemovesNothing ss
-      → solution_entries m (joined d f) ss ≡ map (joined_entry d) (solution_entries m f ss)
+      → solution_entries m (joined_continuation d f) ss ≡ map (joined_entry d) (solution_entries m f ss)
   solutions-joined m f [] h = refl
   solutions-joined m f (s ∷ ss) h =
       ap₂ ◌++◌ (solution-joined m f s h.0) (solutions-joined m f ss h.1)
@@ -188,7 +188,7 @@ module _ (d : Deferred) (levels : List Level) where
       (solutions-own m f ss h.1 i)
 
   solutions_taken : (ss : List Solution) (f : Continuation ℕ) (own : List Entry) → Each RemovesNothing ss → AreOwnItems n f.items → AreOwn n own
-      → Leaves d levels (after_reply (Solutions ss) f (bare own)) (after_reply (Solutions ss) (joined d f) (whole own))
+      → Leaves d levels (after_reply (Solutions ss) f (bare own)) (after_reply (Solutions ss) (joined_continuation d f) (whole own))
   solutions_taken ss f own h i o =
       let m = length (bare own) in
       let new = solution_entries m f ss in
@@ -196,7 +196,7 @@ module _ (d : Deferred) (levels : List Level) where
         left = new ++ own;
         entries = sym (append_assoc new own (bare_floor n));
         are_own = each-append (IsOwnEntry n) new own (solutions-own m f ss h i) o;
-        stands = ap (λ k. solution_entries k (joined d f) ss ++ whole own) (stack-size d levels own)
+        stands = ap (λ k. solution_entries k (joined_continuation d f) ss ++ whole own) (stack-size d levels own)
             ∙ ap (λ l. l ++ whole own) (solutions-joined m f ss h)
             ∙ sym (append_assoc (map (joined_entry d) new) (map (joined_entry d) own) (floor_of levels))
             ∙ ap (λ l. l ++ floor_of levels) (sym (map-append (joined_entry d) new own));

@@ -12,7 +12,7 @@ use Rattle.run_model.proofs.FreeStepLemmas.{length-collected, result_collects}
 use Rattle.tree_model.specs.Levels.{Level}
 use Rattle.tree_model.specs.Floors.{floor_of}
 use Rattle.tree_model.specs.PrivateRuns.{own_free_step, own_free_steps}
-use Rattle.region_floor.specs.Deferred.{Deferred, deferred_now, joined_items, joined, joined_entry}
+use Rattle.region_floor.specs.Deferred.{Deferred, deferred_now, joined_items, joined_continuation, joined_entry}
 use Rattle.region_floor.specs.BareFloors.{bare_floor, AreOwnItems, AreOwn, bare_stack, true_rest, RestsPrivately}
 use Rattle.region_floor.proofs.FloorSizeLemmas.{bare-size, floor-size, stack-size}
 use Rattle.region_floor.proofs.CollectedLemmas.{collected-over, collected-joined, collected-own}
@@ -47,7 +47,7 @@ module _ (d : Deferred) (levels : List Level) where
   now f = deferred_now d f
 
   abbrev own_step : List (Item ℕ) → Continuation ℕ → List Entry → List Entry
-  own_step items f own = own_free_step items (joined d f) (map (joined_entry d) own) floor (own_free_steps floor (length (map (joined_entry d) own)))
+  own_step items f own = own_free_step items (joined_continuation d f) (map (joined_entry d) own) floor (own_free_steps floor (length (map (joined_entry d) own)))
 
   -- the items that a step leaves out make no difference
   step-same : (js is : List (Item ℕ)) (f : Continuation ℕ) (own : List Entry) → own_step js f own ≡ own_step js (with_items is f) own
@@ -107,7 +107,7 @@ module _ (d : Deferred) (levels : List Level) where
 
       given : true_rest d levels (PlainEntry (with_items (CollectMark t h ∷ items) f) ∷ own) ≡ true_rest d levels (collected (h - n) t own)
       given =
-          ap (λ b. cond b (PlainEntry (joined d (with_items (CollectMark t h ∷ items) f)) ∷ map (joined_entry d) own)
+          ap (λ b. cond b (PlainEntry (joined_continuation d (with_items (CollectMark t h ∷ items) f)) ∷ map (joined_entry d) own)
           (own_free_steps floor (length (map (joined_entry d) own)) (collected (h - length floor) t (map (joined_entry d) own)))) low
           ∙ ap (λ k. own_free_steps floor (length (map (joined_entry d) own)) (collected (h - k) t (map (joined_entry d) own))) (floor-size levels)
           ∙ ap₂ (own_free_steps floor) sizes (collected-joined d (h - n) t own)
@@ -119,7 +119,7 @@ module _ (d : Deferred) (levels : List Level) where
         left = findall_ends results l f (bare_stack levels own) ∷ own;
         entries = refl;
         are_own = (o.0, o.1);
-        rest = ap (λ k. PlainEntry (before (GoalItem (binary (codes "=") l (list_term results)) k ∷ []) (joined d f)) ∷ map (joined_entry d) own)
+        rest = ap (λ k. PlainEntry (before (GoalItem (binary (codes "=") l (list_term results)) k ∷ []) (joined_continuation d f)) ∷ map (joined_entry d) own)
             (stack-size d levels own);
       }
 

@@ -13,11 +13,11 @@ use Rattle.tree_model.specs.Levels.{Level}
 use Rattle.tree_model.specs.Floors.{renamed_item, height_of, node_of}
 use Rattle.tree_model.specs.Gates.{ball_scope, control_gate, item_gate, gate_on}
 use Rattle.tree_model.specs.Legality.{gives_result}
-use Rattle.region_floor.specs.Deferred.{deferred_now, joined_items, joined, joined_entry, deferring}
+use Rattle.region_floor.specs.Deferred.{deferred_now, joined_items, joined_continuation, joined_entry, deferring}
 use Rattle.region_floor.specs.BareFloors.{bare_floor, AreOwn, IsOuterMark, TopGoal, goal_entries, bare_stack, true_stack, true_rest, RestsPrivately, InfersPrivately}
 use Rattle.region_floor.specs.PrivateLaws.{HasOutcome}
 use Rattle.region_floor.specs.GateLaws.{deferred_entries, HasDeferred}
-use Rattle.region_floor.specs.RegionRuns.{RegionRun, run_after, StandsAfter, StopsAt, ComesToResult, RegionStarts, TakesGoal, AreOuter}
+use Rattle.region_floor.specs.RegionRuns.{RegionRun, run_after, StandsAfter, StandsAtGate, ComesToResult, RegionStarts, TakesGoal, AreOuter}
 use Rattle.region_floor.specs.RegionRuns.{FallsAt, TakesDeferred, EntriesByHeights, MarksAreOuter, NoBallIsLeft}
 use Rattle.region_floor.proofs.OwnRestLemmas.{rests_privately}
 use Rattle.region_floor.proofs.OwnGoalLemmas.{controls_are_private, solutions_are_private}
@@ -90,7 +90,7 @@ module _ (r : RegionRun) (k : ℕ) where
     }
 
     stops : (gate : Gate) → gate_on r.clauses r.levels (true_stack r.deferred r.levels (goal_entries own_goal)) ≡ Some gate
-        → StopsAt r k (goal_entries t) gate
+        → StandsAtGate r k (goal_entries t) gate
     stops gate g = record {
       own = goal_entries own_goal;
       are_own = top.are_own;
@@ -136,20 +136,20 @@ module _ (r : RegionRun) (k : ℕ) where
       let x = own_goal t o h in
       let g = balls_are_gates r.clauses r.deferred r.levels x b (record { outcome = has t o h; outer = outer }) left
       (thrown t b h (EndEntry left ∷ []) e) in
-      let scope = ball_scope r.levels (after_reply (Ball b) (joined r.deferred t.after) (true_stack r.deferred r.levels x.below)) in
+      let scope = ball_scope r.levels (after_reply (Ball b) (joined_continuation r.deferred t.after) (true_stack r.deferred r.levels x.below)) in
       record { ball = g.ball; scope = scope; stops = stops t o h (BallGate scope) g.gate }
 
-  pub world_stops : (t : TopGoal) (goal : Term) → TakesGoal r k t (AskWorld goal) → StopsAt r k (goal_entries t) WorldGate
+  pub world_stops : (t : TopGoal) (goal : Term) → TakesGoal r k t (AskWorld goal) → StandsAtGate r k (goal_entries t) WorldGate
   world_stops t goal h =
       stops t (AskWorld goal) h WorldGate (world_goals_are_gates r.clauses r.deferred r.levels (own_goal t (AskWorld goal) h) goal h.outcome)
 
-  pub halt_stops : (t : TopGoal) (n : ℕ) → TakesGoal r k t (Replies (HaltNumber n)) → StopsAt r k (goal_entries t) WorldGate
+  pub halt_stops : (t : TopGoal) (n : ℕ) → TakesGoal r k t (Replies (HaltNumber n)) → StandsAtGate r k (goal_entries t) WorldGate
   halt_stops t n h =
       let o = Replies (HaltNumber n) in
       stops t o h WorldGate (halts_are_gates r.clauses r.deferred r.levels (own_goal t o h) n h.outcome)
 
   pub cut_stops : (t : TopGoal) → TakesGoal r k t (Controls CutToScope) → t.height < length r.levels
-      → StopsAt r k (goal_entries t) (CutGate (node_of r.levels t.height))
+      → StandsAtGate r k (goal_entries t) (CutGate (node_of r.levels t.height))
   cut_stops t h l =
       let o = Controls CutToScope in
       stops t o h (CutGate (node_of r.levels t.height)) (cuts_are_gates r.clauses r.deferred r.levels (own_goal t o h) h.outcome l)
@@ -169,7 +169,7 @@ module _ (r : RegionRun) (k : ℕ) where
         → true_rest r.deferred r.levels (deferred_entries n f deferred_top.below)
         ≡ map (joined_entry r.deferred) (deferred_entries n f deferred_top.below)
         → gate_on r.clauses r.levels (true_stack r.deferred r.levels (deferred_entries n f deferred_top.below)) ≡ Some gate
-        → StopsAt r k (deferred_entries n f es) gate
+        → StandsAtGate r k (deferred_entries n f es) gate
     deferred_stops gate e g = record {
       own = deferred_entries n f deferred_top.below;
       are_own = deferred_top.are_own;
@@ -196,14 +196,14 @@ module _ (r : RegionRun) (k : ℕ) where
       (rested (deferred_entries n f p.below) (bare_stack r.levels (deferred_entries (suc n) f p.below)) p.run
       (catch_marks_skip r.deferred r.levels n h f p.below items (has_deferred n f es (CatchMark h ∷ items) t)))
 
-  pub answer_stops : (n : ℕ) (f : Continuation ℕ) (es : List Entry) → TakesDeferred r k n f es [] → StopsAt r k (deferred_entries n f es) WorldGate
+  pub answer_stops : (n : ℕ) (f : Continuation ℕ) (es : List Entry) → TakesDeferred r k n f es [] → StandsAtGate r k (deferred_entries n f es) WorldGate
   answer_stops n f es t =
       let below = (deferred_top n f es [] t).below in
       deferred_stops n f es [] t WorldGate (answers_rest r.deferred r.levels n f below (has_deferred n f es [] t))
       (answers_are_gates r.clauses r.deferred r.levels n f below (has_deferred n f es [] t))
 
   pub removal_stops : (n number : ℕ) (f : Continuation ℕ) (es : List Entry) (items : List (Item ℕ))
-      → TakesDeferred r k n f es (RemovalItem number ∷ items) → StopsAt r k (deferred_entries n f es) WorldGate
+      → TakesDeferred r k n f es (RemovalItem number ∷ items) → StandsAtGate r k (deferred_entries n f es) WorldGate
   removal_stops n number f es items t =
       let all = RemovalItem number ∷ items in
       let below = (deferred_top n f es all t).below in
@@ -231,7 +231,7 @@ module _ (r : RegionRun) (k : ℕ) where
 
   -- no item on top
   pub nothing_stops : (f : Continuation ℕ) (es : List Entry) → f.items ≡ [] → StandsAfter r k (PlainEntry f ∷ es)
-      → StopsAt r k (PlainEntry f ∷ es) WorldGate
+      → StandsAtGate r k (PlainEntry f ∷ es) WorldGate
   nothing_stops f es e h =
       let p = on_top f es h in
       let d = r.deferred in
@@ -240,7 +240,7 @@ module _ (r : RegionRun) (k : ℕ) where
         are_own = p.are_own;
         entries = ap (λ l. PlainEntry f ∷ l) p.entries;
         run = p.run ∙ ap Some (rests p.below);
-        gate_is = ap (λ l. item_gate r.clauses r.levels (without_marks (joined_items (deferred_now d f) l)) (joined d f) (true_stack d r.levels p.below)) e;
+        gate_is = ap (λ l. item_gate r.clauses r.levels (without_marks (joined_items (deferred_now d f) l)) (joined_continuation d f) (true_stack d r.levels p.below)) e;
       }
     where
       rests : (below : List Entry) → true_rest r.deferred r.levels (PlainEntry f ∷ below) ≡ map (joined_entry r.deferred) (PlainEntry f ∷ below)

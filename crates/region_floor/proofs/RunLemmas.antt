@@ -7,7 +7,7 @@ use Rattle.run_model.specs.Machine.Entries.{Entry, PlainEntry, EndEntry}
 use Rattle.tree_model.specs.Levels.{Level}
 use Rattle.tree_model.specs.Floors.{floor_of}
 use Rattle.tree_model.specs.PrivateRuns.{own_at_rest, one_more, if_any, private_run}
-use Rattle.region_floor.specs.Deferred.{joined, all_deferred, deferring}
+use Rattle.region_floor.specs.Deferred.{joined_continuation, all_deferred, deferring}
 use Rattle.region_floor.specs.BareFloors.{bare_floor, IsOwnEntry}
 use Rattle.region_floor.specs.RunLaws.{RunStarts, GoalsRest, RunGoesOn, TopsAreOwn, EndsAreBare, NothingIsBare, OwnAreOver, OwnAreCounted}
 use Rattle.region_floor.proofs.FloorSizeLemmas.{bare-size, part-over}
@@ -16,7 +16,7 @@ use Rattle.region_floor.proofs.JoinedLemmas.{joined-resolved, all_is_left}
 pub run_starts : RunStarts
 unfolding private_run
 run_starts clauses levels s f =
-    let same : resolve_continuation s f ≡ joined (all_deferred f) (resolve_continuation s (deferring f)) =
+    let same : resolve_continuation s f ≡ joined_continuation (all_deferred f) (resolve_continuation s (deferring f)) =
     ap (resolve_continuation s) (sym (all_is_left f)) ∙ joined-resolved s (all_deferred f) (deferring f) in
     ap (λ c. Some (own_at_rest (floor_of levels) (PlainEntry c ∷ []))) same
 

@@ -12,7 +12,7 @@ use Rattle.run_model.specs.Machine.Heights.{after_reply}
 use Rattle.tree_model.specs.Nodes.{BallGate}
 use Rattle.tree_model.specs.Levels.{Level}
 use Rattle.tree_model.specs.Gates.{ball_scope, gate_on}
-use Rattle.region_floor.specs.Deferred.{Deferred, joined}
+use Rattle.region_floor.specs.Deferred.{Deferred, joined_continuation}
 use Rattle.region_floor.specs.BareFloors.{IsOuterMark, TopGoal, goal_entries, bare_stack, true_stack, InfersPrivately}
 use Rattle.region_floor.specs.PrivateLaws.{HasOutcome}
 
@@ -32,7 +32,7 @@ BallsArePrivate =
 pub record IsBallGate (clauses : List Clause) (d : Deferred) (levels : List Level) (t : TopGoal) (b : Term) (c : Option Term) : Type 0 where
   pub ball : c ≡ Some (copied b 0)
   pub gate : gate_on clauses levels (true_stack d levels (goal_entries t))
-      ≡ Some (BallGate (ball_scope levels (after_reply (Ball b) (joined d t.after) (true_stack d levels t.below))))
+      ≡ Some (BallGate (ball_scope levels (after_reply (Ball b) (joined_continuation d t.after) (true_stack d levels t.below))))
 
 abbrev pub BallsAreGates : Type 0
 BallsAreGates =

@@ -38,13 +38,13 @@ joined_items now (CollectMark t h ∷ items) = CollectMark t h ∷ joined_items 
 joined_items now (RemovalItem number ∷ items) = drop number now ++ joined_items now items
 
 -- what is left to do, with what is deferred
-abbrev pub joined : Deferred → Continuation ℕ → Continuation ℕ
-joined d f = record { items = joined_items (deferred_now d f) f.items; named = take d.named f.named; next = f.next }
+abbrev pub joined_continuation : Deferred → Continuation ℕ → Continuation ℕ
+joined_continuation d f = record { items = joined_items (deferred_now d f) f.items; named = take d.named f.named; next = f.next }
 
 abbrev pub joined_entry : Deferred → Entry → Entry
-joined_entry d (PlainEntry f) = PlainEntry (joined d f)
-joined_entry d (CatchEntry c r f) = CatchEntry c r (joined d f)
-joined_entry d (FindallEntry results l f) = FindallEntry results l (joined d f)
+joined_entry d (PlainEntry f) = PlainEntry (joined_continuation d f)
+joined_entry d (CatchEntry c r f) = CatchEntry c r (joined_continuation d f)
+joined_entry d (FindallEntry results l f) = FindallEntry results l (joined_continuation d f)
 joined_entry d (EndEntry b) = EndEntry b
 
 -- the term of an item, where it has one, as a named term

@@ -43,7 +43,7 @@ pub record StandsAfter (r : RegionRun) (k : ℕ) (stack : List Entry) : Type 0 w
   pub run : run_after r k ≡ Some (true_rest r.deferred r.levels own)
 
 -- the run has come to own entries at rest, and this is the gate of the next item
-pub record StopsAt (r : RegionRun) (k : ℕ) (stack : List Entry) (gate : Gate) : Type 0 where
+pub record StandsAtGate (r : RegionRun) (k : ℕ) (stack : List Entry) (gate : Gate) : Type 0 where
   pub own : List Entry
   pub are_own : AreOwn (length r.levels) own
   pub entries : stack ≡ bare_stack r.levels own
@@ -112,7 +112,7 @@ BallsStand =
 pub record FallsAt (r : RegionRun) (k : ℕ) (t : TopGoal) (b : Term) (left : Option Term) : Type 0 where
   pub ball : left ≡ Some (copied b 0)
   pub scope : ℕ
-  pub stops : StopsAt r k (goal_entries t) (BallGate scope)
+  pub stops : StandsAtGate r k (goal_entries t) (BallGate scope)
 
 abbrev pub BallsStop : Type 0
 BallsStop =
@@ -120,15 +120,15 @@ BallsStop =
     → after_reply (Ball b) t.after t.below ≡ EndEntry left ∷ [] → FallsAt r k t b left
 
 abbrev pub WorldGoalsStop : Type 0
-WorldGoalsStop = (r : RegionRun) (k : ℕ) (t : TopGoal) (goal : Term) → TakesGoal r k t (AskWorld goal) → StopsAt r k (goal_entries t) WorldGate
+WorldGoalsStop = (r : RegionRun) (k : ℕ) (t : TopGoal) (goal : Term) → TakesGoal r k t (AskWorld goal) → StandsAtGate r k (goal_entries t) WorldGate
 
 abbrev pub HaltsStop : Type 0
-HaltsStop = (r : RegionRun) (k : ℕ) (t : TopGoal) (n : ℕ) → TakesGoal r k t (Replies (HaltNumber n)) → StopsAt r k (goal_entries t) WorldGate
+HaltsStop = (r : RegionRun) (k : ℕ) (t : TopGoal) (n : ℕ) → TakesGoal r k t (Replies (HaltNumber n)) → StandsAtGate r k (goal_entries t) WorldGate
 
 abbrev pub CutsStop : Type 0
 CutsStop =
     (r : RegionRun) (k : ℕ) (t : TopGoal) → TakesGoal r k t (Controls CutToScope) → t.height < length r.levels
-    → StopsAt r k (goal_entries t) (CutGate (node_of r.levels t.height))
+    → StandsAtGate r k (goal_entries t) (CutGate (node_of r.levels t.height))
 
 -- what is deferred from a number on is on top
 pub record TakesDeferred (r : RegionRun) (k n : ℕ) (f : Continuation ℕ) (es : List Entry) (items : List (Item ℕ)) : Type 0 where
@@ -147,12 +147,12 @@ MarksSkipped =
 
 abbrev pub AnswersStop : Type 0
 AnswersStop =
-    (r : RegionRun) (k n : ℕ) (f : Continuation ℕ) (es : List Entry) → TakesDeferred r k n f es [] → StopsAt r k (deferred_entries n f es) WorldGate
+    (r : RegionRun) (k n : ℕ) (f : Continuation ℕ) (es : List Entry) → TakesDeferred r k n f es [] → StandsAtGate r k (deferred_entries n f es) WorldGate
 
 abbrev pub RemovalsStop : Type 0
 RemovalsStop =
     (r : RegionRun) (k n number : ℕ) (f : Continuation ℕ) (es : List Entry) (items : List (Item ℕ))
-    → TakesDeferred r k n f es (RemovalItem number ∷ items) → StopsAt r k (deferred_entries n f es) WorldGate
+    → TakesDeferred r k n f es (RemovalItem number ∷ items) → StandsAtGate r k (deferred_entries n f es) WorldGate
 
 abbrev pub ResultsStop : Type 0
 ResultsStop =
@@ -163,7 +163,7 @@ ResultsStop =
 abbrev pub NothingStops : Type 0
 NothingStops =
     (r : RegionRun) (k : ℕ) (f : Continuation ℕ) (es : List Entry) → f.items ≡ [] → StandsAfter r k (PlainEntry f ∷ es)
-    → StopsAt r k (PlainEntry f ∷ es) WorldGate
+    → StandsAtGate r k (PlainEntry f ∷ es) WorldGate
 
 -- an end on top, or an empty stack: nothing is left of the run
 abbrev pub EndsAreEmpty : Type 0

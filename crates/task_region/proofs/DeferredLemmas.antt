@@ -13,7 +13,7 @@ use Rattle.region_split.specs.declared.frame.Position.{Position}
 use Rattle.region_floor.specs.Deferred.{deferred_now, items_now}
 use Rattle.region_floor.specs.BareFloors.{AreOwn}
 use Rattle.region_floor.specs.GateLaws.{deferred_entries}
-use Rattle.region_floor.specs.RegionRuns.{RegionRun, StandsAfter, StopsAt, ComesToResult, TakesDeferred as TakesNext}
+use Rattle.region_floor.specs.RegionRuns.{RegionRun, StandsAfter, StandsAtGate, ComesToResult, TakesDeferred as TakesNext}
 use Rattle.region_floor.proofs.JoinedLemmas.{bound_now}
 use Rattle.region_floor.proofs.RegionRunLemmas.{goal_loaded, mark_skipped, answer_stops, removal_stops, result_comes}
 use Rattle.region_floor.proofs.RunLemmas.{tops_are_own}
@@ -81,10 +81,10 @@ module _ (r : RegionRun) (k : ℕ) (named : List NamedTerm) (old : RegionView) (
       (sym (left ∙ ap₂ (λ n g. deferred_entries n g es) one f_is))
       (mark_skipped r k number h f es _ (takes_item (CatchMark h) e))
 
-  pub answer_is : slice_get r.deferred.items number ≡ None → StopsAt r k (deferred_stack named r.deferred.items old number after) WorldGate
+  pub answer_is : slice_get r.deferred.items number ≡ None → StandsAtGate r k (deferred_stack named r.deferred.items old number after) WorldGate
   answer_is e = answer_stops r k number f es (takes [] (nothing_from (resolve_item old.store.now.bound) r.deferred.items number e))
 
-  pub removal_is : (clause : ℕ) → slice_get r.deferred.items number ≡ Some (RemovalItem clause) → StopsAt r k (deferred_stack named r.deferred.items old number after) WorldGate
+  pub removal_is : (clause : ℕ) → slice_get r.deferred.items number ≡ Some (RemovalItem clause) → StandsAtGate r k (deferred_stack named r.deferred.items old number after) WorldGate
   removal_is clause e = removal_stops r k number clause f es _ (takes_item (RemovalItem clause) e)
 
   pub result_is : (result : Term) (h : ℕ) → slice_get r.deferred.items number ≡ Some (CollectMark result h) → ComesToResult r k (deferred_stack named r.deferred.items old number after)

@@ -14,7 +14,7 @@ use Rattle.region_split.proofs.StandingLemmas.{standing-append, is_over, IsMeasu
 use Rattle.region_split.proofs.RegionLemmas.{nothing_measured}
 use Rattle.region_floor.specs.BareFloors.{bare_floor, AreOwn}
 use Rattle.region_floor.proofs.FloorSizeLemmas.{bare-size}
-use Rattle.task_region.specs.BareRegions.{IsNoEnd, AreEndsOldest, EndsAreFloor}
+use Rattle.task_region.specs.BareRegions.{StandsForNoEnd, AreEndsOldest, EndsAreFloor}
 use Rattle.task_region.proofs.ChoiceEntryLemmas.{IsNoEndEntry, alternatives_no_end, end_is}
 
 -- how many ends
@@ -60,7 +60,7 @@ record StandsOver (st : Standing) (many : ℕ) : Type 0 where
   above : (cut : ℕ) → floor ≤ cut → cut ≤ many → floor ≤ height_of_cut st.heights cut
 
 module _ (s : RegionSetting) where
-  no_ends_over : (below : Standing) (cs : List ChoicePoint) (ms : List Moment) → Each IsNoEnd cs
+  no_ends_over : (below : Standing) (cs : List ChoicePoint) (ms : List Moment) → Each StandsForNoEnd cs
       → (own : List Entry) × ((standing_over s below cs ms).entries ≡ own ++ below.entries) × Each IsNoEndEntry own
   no_ends_over below [] ms h = ([], refl, tt)
   no_ends_over below (c ∷ cs) [] h = ([], refl, tt)
@@ -89,7 +89,7 @@ module _ (s : RegionSetting) where
         let floor = ap length is ∙ bare-size k in
         omega (arith, height, size, floor)
 
-    over_ends : (cs : List ChoicePoint) (ms : List Moment) (many : ℕ) → length cs ≡ length ms → many ≡ k + length cs → Each IsNoEnd cs → StandsOver (standing_over s below cs ms) many
+    over_ends : (cs : List ChoicePoint) (ms : List Moment) (many : ℕ) → length cs ≡ length ms → many ≡ k + length cs → Each StandsForNoEnd cs → StandsOver (standing_over s below cs ms) many
     over_ends cs ms many long all h =
         let o = no_ends_over below cs ms h in
         record {

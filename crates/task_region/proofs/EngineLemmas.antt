@@ -20,42 +20,42 @@ use Rattle.region_control.specs.declared.control.GoalPlace.{GoalPlace}
 use Rattle.region_control.specs.declared.replies.AfterGoal.{AfterGoal}
 use Rattle.region_control.specs.declared.replies.AfterGoal.TheVariants.{At, Failed, Uncaught, AsksWorld}
 use Rattle.region_floor.specs.BareFloors.{goal_entries}
-use Rattle.region_floor.specs.RegionRuns.{RegionRun, StandsAfter, StopsAt, TakesGoal, AreOuter}
+use Rattle.region_floor.specs.RegionRuns.{RegionRun, StandsAfter, StandsAtGate, TakesGoal, AreOuter}
 use Rattle.region_floor.proofs.OwnBallLemmas.{balls_land}
 use Rattle.region_floor.proofs.RegionRunLemmas.{free_steps, control_stands, solutions_stand, ball_stands, ball_stops, cut_stops, world_stops, no_ball_is_left}
-use Rattle.task_region.specs.EngineSteps.{LookingStands, InferenceStands, FloorCutStops, ComesToGoal, StandsBy, top_of}
+use Rattle.task_region.specs.EngineSteps.{LookingStands, InferenceStands, FloorCutStops, ComesToGoal, StandsBy, top_goal}
 use Rattle.task_region.proofs.ChoiceEntryLemmas.{no_ball_stands}
 
 pub looking_stands : LookingStands
 looking_stands r k named old new start a h l = subst (StandsAfter r k) (l.entries named) (free_steps r k _ h)
 
 module _ (r : RegionRun) (k : ℕ) (named : List NamedTerm) (old new : RegionView) (goal : Term) (g : GoalPlace) (outer : AreOuter r) where
-  leaves : (after : AfterGoal) (stack : List NamedTerm → List Entry) → StandsAfter r (suc k) (stack named) → Leaves stack new after → StandsBy r k named new (top_of named old goal g) after
+  leaves : (after : AfterGoal) (stack : List NamedTerm → List Entry) → StandsAfter r (suc k) (stack named) → Leaves stack new after → StandsBy r k named new (top_goal named old goal g) after
   leaves (At p) stack h l = subst (StandsAfter r (suc k)) (l.0 named) h
   leaves Failed stack h l = subst (StandsAfter r (suc k)) (l named) h
   leaves (Uncaught ball) stack h l = absurd (no_ball_is_left r (suc k) ball.value [] (subst (StandsAfter r (suc k)) (l named) h))
   leaves AsksWorld stack h l = absurd l
 
   -- a ball that leaves no position lands nowhere
-  fails : (b : Term) → TakesGoal r k (top_of named old goal g) (Replies (Ball b))
+  fails : (b : Term) → TakesGoal r k (top_goal named old goal g) (Replies (Ball b))
       → unwound b (first_mark (continuation_here named old g.after).items) (entries_of named old) ≡ entries_of named new
       → ((f : Continuation ℕ) × (ds : List Entry) × (unwound b (first_mark (continuation_here named old g.after).items) (entries_of named old) ≡ PlainEntry f ∷ ds))
       ⊎ (unwound b (first_mark (continuation_here named old g.after).items) (entries_of named old) ≡ EndEntry (Some (copied b 0)) ∷ []) → StandsAfter r (suc k) (entries_of named new)
-  fails b h l (inl e) = subst (StandsAfter r (suc k)) (sym e.2 ∙ l) (ball_stands r k (top_of named old goal g) b outer h e.0 e.1 e.2)
+  fails b h l (inl e) = subst (StandsAfter r (suc k)) (sym e.2 ∙ l) (ball_stands r k (top_goal named old goal g) b outer h e.0 e.1 e.2)
   fails b h l (inr e) = absurd (no_ball_stands named new (copied b 0) [] (sym l ∙ e))
 
-  outcome_stands : (o : Outcome) (after : AfterGoal) → TakesGoal r k (top_of named old goal g) o
+  outcome_stands : (o : Outcome) (after : AfterGoal) → TakesGoal r k (top_goal named old goal g) o
       → ((form : ControlForm) → o ≡ Controls form → control_gate r.levels form (height_of_cut (heights_of named old) g.cut) ≡ None)
-      → LeavesOutcome old new o g after → StandsBy r k named new (top_of named old goal g) after
+      → LeavesOutcome old new o g after → StandsBy r k named new (top_goal named old goal g) after
   outcome_stands (Controls form) after h c l =
       leaves after (λ ns. after_control form (height_of_cut (heights_of ns old) g.cut) (continuation_here ns old g.after) (entries_of ns old))
-      (control_stands r k (top_of named old goal g) form h (c form refl)) l
+      (control_stands r k (top_goal named old goal g) form h (c form refl)) l
   outcome_stands (Replies (Solutions ss)) after h c l =
-      leaves after (λ ns. after_reply (Solutions ss) (continuation_here ns old g.after) (entries_of ns old)) (solutions_stand r k (top_of named old goal g) ss h) l
+      leaves after (λ ns. after_reply (Solutions ss) (continuation_here ns old g.after) (entries_of ns old)) (solutions_stand r k (top_goal named old goal g) ss h) l
   outcome_stands (Replies (HaltNumber n)) after h c l = absurd l
-  outcome_stands (AskWorld asked) after h c l = subst (StandsBy r k named new (top_of named old goal g)) (sym l.0) (world_stops r k (top_of named old goal g) asked h)
-  outcome_stands (Replies (Ball b)) (At p) h c l = ball_stands r k (top_of named old goal g) b outer h _ _ (l.0 named)
-  outcome_stands (Replies (Ball b)) (Uncaught ball) h c l = (b, ball_stops r k (top_of named old goal g) b outer h (Some ball.value) (l named))
+  outcome_stands (AskWorld asked) after h c l = subst (StandsBy r k named new (top_goal named old goal g)) (sym l.0) (world_stops r k (top_goal named old goal g) asked h)
+  outcome_stands (Replies (Ball b)) (At p) h c l = ball_stands r k (top_goal named old goal g) b outer h _ _ (l.0 named)
+  outcome_stands (Replies (Ball b)) (Uncaught ball) h c l = (b, ball_stops r k (top_goal named old goal g) b outer h (Some ball.value) (l named))
   outcome_stands (Replies (Ball b)) AsksWorld h c l = absurd l
   outcome_stands (Replies (Ball b)) Failed h c l =
       fails b h (l named) (balls_land b (first_mark (continuation_here named old g.after).items) (entries_of named old))
@@ -64,7 +64,7 @@ module _ (r : RegionRun) (k : ℕ) (named : List NamedTerm) (here : RegionView) 
   abbrev outcome : Outcome
   outcome = outcome_of here.text.clauses goal here.store.now.next
 
-  takes : TakesGoal r k (top_of named here goal g) outcome
+  takes : TakesGoal r k (top_goal named here goal g) outcome
   takes = record { stands = w.stands; outcome = ap (λ cs. outcome_of cs goal here.store.now.next) w.clauses }
 
   -- above the floor no control construct is a gate
@@ -80,11 +80,11 @@ module _ (r : RegionRun) (k : ℕ) (named : List NamedTerm) (here : RegionView) 
   no_gate c (CatchOf guarded catcher recovery) e = refl
   no_gate c (FindallOf template collected list) e = refl
 
-  pub cut_to_floor : outcome ≡ Controls CutToScope → g.cut < length r.levels → StopsAt r k (goal_entries (top_of named here goal g)) (CutGate (node_of r.levels g.cut))
+  pub cut_to_floor : outcome ≡ Controls CutToScope → g.cut < length r.levels → StandsAtGate r k (goal_entries (top_goal named here goal g)) (CutGate (node_of r.levels g.cut))
   cut_to_floor is low =
       let height = w.over.below g.cut (omega (arith, low)) in
-      subst (λ h. StopsAt r k (goal_entries (top_of named here goal g)) (CutGate (node_of r.levels h))) height
-      (cut_stops r k (top_of named here goal g) (record { stands = w.stands; outcome = takes.outcome ∙ is }) (omega (arith, height, low)))
+      subst (λ h. StandsAtGate r k (goal_entries (top_goal named here goal g)) (CutGate (node_of r.levels h))) height
+      (cut_stops r k (top_goal named here goal g) (record { stands = w.stands; outcome = takes.outcome ∙ is }) (omega (arith, height, low)))
 
 pub inference_stands : InferenceStands
 inference_stands r k named old new goal g after w c l =

@@ -34,13 +34,13 @@ IsEnd (Catch catcher recovery) = ⊥
 IsEnd (Findall list results) = ⊥
 IsEnd QueryEnd = Unit {0}
 
-abbrev pub IsNoEnd : ChoicePoint → Type 0
-IsNoEnd c = IsEnd c.alternatives → ⊥
+abbrev pub StandsForNoEnd : ChoicePoint → Type 0
+StandsForNoEnd c = IsEnd c.alternatives → ⊥
 
 -- the ends of queries are under all other choice points
 abbrev pub AreEndsOldest : List ChoicePoint → Type 0
 AreEndsOldest [] = Unit {0}
-AreEndsOldest (c ∷ cs) = (IsEnd c.alternatives × AreEndsOldest cs) ⊎ Each IsNoEnd (c ∷ cs)
+AreEndsOldest (c ∷ cs) = (IsEnd c.alternatives × AreEndsOldest cs) ⊎ Each StandsForNoEnd (c ∷ cs)
 
 -- and so they are the floor
 abbrev pub EndsAreFloor : Type 0

@@ -18,7 +18,7 @@ use Rattle.region_control.specs.declared.control.GoalPlace.{GoalPlace}
 use Rattle.region_control.specs.declared.replies.AfterGoal.{AfterGoal}
 use Rattle.region_control.specs.declared.replies.AfterGoal.TheVariants.{At, Failed, Uncaught, AsksWorld}
 use Rattle.region_floor.specs.BareFloors.{TopGoal, goal_entries}
-use Rattle.region_floor.specs.RegionRuns.{RegionRun, StandsAfter, StopsAt, FallsAt, AreOuter}
+use Rattle.region_floor.specs.RegionRuns.{RegionRun, StandsAfter, StandsAtGate, FallsAt, AreOuter}
 use Rattle.task_region.specs.BareRegions.{IsOverFloor}
 
 -- what lies ahead stands where the run was
@@ -28,8 +28,8 @@ LookingStands =
     → StandsAfter r k (entries_at named old start ++ entries_of named old) → LiesAhead old new start a → StandsAfter r k (ahead_entries named new a)
 
 -- a goal at a place, on top of what the choice points stand for
-abbrev pub top_of : List NamedTerm → RegionView → Term → GoalPlace → TopGoal
-top_of named r goal g =
+abbrev pub top_goal : List NamedTerm → RegionView → Term → GoalPlace → TopGoal
+top_goal named r goal g =
     record { goal = goal; height = height_of_cut (heights_of named r) g.cut; after = continuation_here named r g.after; below = entries_of named r }
 
 -- a run has come to a goal
@@ -38,25 +38,25 @@ pub record ComesToGoal (r : RegionRun) (k : ℕ) (named : List NamedTerm) (here 
   pub outer : AreOuter r
   pub over : IsOverFloor (length r.levels) named here
   pub place : IsGoalPlace here g
-  pub stands : StandsAfter r k (goal_entries (top_of named here goal g))
+  pub stands : StandsAfter r k (goal_entries (top_goal named here goal g))
 
 -- what the engine leaves of it: the run one inference later, a ball at its gate, or a goal of the world at its gate
 abbrev pub StandsBy : RegionRun → ℕ → List NamedTerm → RegionView → TopGoal → AfterGoal → Type 0
 StandsBy r k named new t (At p) = StandsAfter r (suc k) (position_entry named new p ∷ entries_of named new)
 StandsBy r k named new t Failed = StandsAfter r (suc k) (entries_of named new)
 StandsBy r k named new t (Uncaught ball) = (b : Term) × FallsAt r k t b (Some ball.value)
-StandsBy r k named new t AsksWorld = StopsAt r k (goal_entries t) WorldGate
+StandsBy r k named new t AsksWorld = StandsAtGate r k (goal_entries t) WorldGate
 
 -- where the goal is no cut to the floor
 abbrev pub InferenceStands : Type 0
 InferenceStands =
     (r : RegionRun) (k : ℕ) (named : List NamedTerm) (old new : RegionView) (goal : Term) (g : GoalPlace) (after : AfterGoal) → ComesToGoal r k named old goal g
     → (outcome_of old.text.clauses goal old.store.now.next ≡ Controls CutToScope → length r.levels ≤ g.cut)
-    → LeavesOutcome old new (outcome_of old.text.clauses goal old.store.now.next) g after → StandsBy r k named new (top_of named old goal g) after
+    → LeavesOutcome old new (outcome_of old.text.clauses goal old.store.now.next) g after → StandsBy r k named new (top_goal named old goal g) after
 
 -- where it is one, the run is at its gate
 abbrev pub FloorCutStops : Type 0
 FloorCutStops =
     (r : RegionRun) (k : ℕ) (named : List NamedTerm) (here : RegionView) (goal : Term) (g : GoalPlace) → ComesToGoal r k named here goal g
     → outcome_of here.text.clauses goal here.store.now.next ≡ Controls CutToScope → g.cut < length r.levels
-    → StopsAt r k (goal_entries (top_of named here goal g)) (CutGate (node_of r.levels g.cut))
+    → StandsAtGate r k (goal_entries (top_goal named here goal g)) (CutGate (node_of r.levels g.cut))

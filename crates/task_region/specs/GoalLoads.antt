@@ -10,7 +10,7 @@ use Rattle.tree_model.specs.Nodes.{WorldGate}
 use Rattle.region_split.specs.ChoicePoints.{height_of_cut}
 use Rattle.region_split.specs.Regions.{RegionView, standing, heights_of, position_entry, IsPositionIn}
 use Rattle.region_split.specs.declared.frame.Position.{Position}
-use Rattle.region_floor.specs.RegionRuns.{RegionRun, StandsAfter, StopsAt, ComesToResult}
+use Rattle.region_floor.specs.RegionRuns.{RegionRun, StandsAfter, StandsAtGate, ComesToResult}
 use Rattle.task_region.specs.DeferredItems.{IsDeferredOver}
 use Rattle.task_region.specs.BareRegions.{IsOverFloor}
 use Rattle.task_region.specs.TaskViews.{carried, position_stack, deferred_stack}
@@ -48,9 +48,9 @@ pub record ComesToDeferred (r : RegionRun) (k : ℕ) (named : List NamedTerm) (h
 -- there on, or at a result for a findall of the branch, or at a removal
 abbrev pub DeferredTaken : RegionRun → ℕ → List NamedTerm → RegionView → RegionView → ℕ → Position → AfterDeferred → Type 0
 DeferredTaken r k named old new number after (GoesOn p) = StandsAfter r k (position_stack named r.deferred.items new p)
-DeferredTaken r k named old new number after Answer = StopsAt r k (deferred_stack named r.deferred.items old number after) WorldGate
+DeferredTaken r k named old new number after Answer = StandsAtGate r k (deferred_stack named r.deferred.items old number after) WorldGate
 DeferredTaken r k named old new number after Result = ComesToResult r k (deferred_stack named r.deferred.items old number after)
-DeferredTaken r k named old new number after (Removal clause) = StopsAt r k (deferred_stack named r.deferred.items old number after) WorldGate
+DeferredTaken r k named old new number after (Removal clause) = StandsAtGate r k (deferred_stack named r.deferred.items old number after) WorldGate
 
 -- where the run stops, this is the number's item, and nothing has changed
 abbrev pub IsDeferredThere : RegionView → RegionView → List (Item ℕ) → ℕ → AfterDeferred → Type 0
@@ -60,7 +60,7 @@ IsDeferredThere old new items number Result = ((result : Term) × (h : ℕ) × (
 IsDeferredThere old new items number (Removal clause) = (slice_get items number ≡ Some (RemovalItem clause)) × (new ≡ old)
 
 -- what is deferred under a number was taken up
-pub record TakesDeferred (old new : RegionView) (items : List (Item ℕ)) (number : ℕ) (reached : AfterDeferred) : Type 0 where
+pub record TakesUpDeferred (old new : RegionView) (items : List (Item ℕ)) (number : ℕ) (reached : AfterDeferred) : Type 0 where
   pub taken : (r : RegionRun) (k : ℕ) (named : List NamedTerm) (after : Position) → r.deferred.items ≡ items → ComesToDeferred r k named old number after
       → DeferredTaken r k named old new number after reached
   pub there : IsDeferredThere old new items number reached

@@ -3,7 +3,7 @@ ghost use Rattle.std.specs.Prelude.{◌≡◌, ◌≤◌, IfOk, length, map};
 ghost use Rattle.au_model.specs.Terms.Each.{Each};
 ghost use Rattle.au_term.specs.Term.{var_bound};
 ghost use Rattle.task_region.specs.DeferredItems.{item_of, IsDeferredOver};
-ghost use Rattle.task_region.specs.GoalLoads.{LeavesItems, rest_items, loaded_items, TakesDeferred};
+ghost use Rattle.task_region.specs.GoalLoads.{LeavesItems, rest_items, loaded_items, TakesUpDeferred};
 
 use crate::deferred::DeferredItem;
 use au_term::{NoMemory, Shared};
@@ -29,7 +29,7 @@ pub fn take_deferred(
     number: u64,
 ) -> Result<AfterDeferred, NoMemory>
     requires scoped { Each (IsDeferredOver region.old.store.now.next (length region.old.choices)) (map item_of deferred.now) }
-    ensures takes { IfOk result (TakesDeferred region.old region.new (map item_of deferred.now) number) }
+    ensures takes { IfOk result (TakesUpDeferred region.old region.new (map item_of deferred.now) number) }
 {
     let Some(item) = deferred.get(number as usize) else {
         return Ok(AfterDeferred::Answer);

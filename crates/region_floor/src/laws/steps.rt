@@ -8,7 +8,7 @@ ghost use Rattle.run_model.specs.Machine.Items.{Continuation, resolve_continuati
 ghost use Rattle.run_model.specs.Machine.Entries.{Entry};
 ghost use Rattle.run_model.specs.Machine.FreeSteps.{take_free_steps};
 ghost use Rattle.tree_model.specs.Levels.{Level};
-ghost use Rattle.region_floor.specs.Deferred.{Deferred, joined, all_deferred, deferring, IsBoundNow};
+ghost use Rattle.region_floor.specs.Deferred.{Deferred, joined_continuation, all_deferred, deferring, IsBoundNow};
 ghost use Rattle.region_floor.specs.BareFloors.{AreOwn, bare_stack, RestsPrivately};
 ghost use Rattle.region_floor.specs.BallLaws.{BallsArePrivate, BallsAreGates, BallsLand};
 ghost use Rattle.region_floor.specs.GateLaws.{WorldGoalsAreGates, HaltsAreGates, CutsAreGates, AnswersAreGates, RemovalsAreGates, GoalsLoad};
@@ -19,9 +19,9 @@ ghost use Rattle.region_floor.specs.PrivateLaws.{KeepsClauses, ControlsArePrivat
 
 /// Where all that is left to do is deferred, it is what the region stands for, and bindings reach what is deferred.
 pub fn deferred_items_are_left()
-    ensures all { (f : Continuation ℕ) → joined (all_deferred f) (deferring f) ≡ f }
+    ensures all { (f : Continuation ℕ) → joined_continuation (all_deferred f) (deferring f) ≡ f }
     ensures now { IsBoundNow }
-    ensures bound { (s : Substitution) (d : Deferred) (f : Continuation ℕ) → resolve_continuation s (joined d f) ≡ joined d (resolve_continuation s f) }
+    ensures bound { (s : Substitution) (d : Deferred) (f : Continuation ℕ) → resolve_continuation s (joined_continuation d f) ≡ joined_continuation d (resolve_continuation s f) }
 {}
 
 /// The free steps of own entries over a bare floor leave own entries that stand for what comes to the same rest.
