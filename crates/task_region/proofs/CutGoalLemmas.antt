@@ -1,8 +1,9 @@
 -- Goals that cut.
-use Rattle.std.proofs.Common.{◌≡◌, ℕ, Bool, true, false, cond, ◌&&◌, ◌==◌, List, Option, Some, None, refl, sym, ap₂, ◌∙◌}
+use Rattle.std.proofs.Common.{◌≡◌, ℕ, Bool, true, false, cond, ◌==◌, List, Option, Some, None, refl, sym, ap₂, ◌∙◌}
 use Rattle.std.specs.Prelude.{codes, nat_lt}
 use Rattle.std.specs.Cmp.Lexicographic.{same_text}
 use Rattle.std.proofs.lemmas.Bool.{eqb-true}
+use Rattle.au_term.proofs.LogicLemmas.{both}
 use Rattle.au_term.specs.Term.{Term, VarTerm, IntTerm, AtomTerm, Compound, Terms, end, more, argument_count, term_at, drop_terms}
 use Rattle.au_model.specs.Terms.Each.{Each}
 use Rattle.au_model.specs.Terms.ErrorTerms.{representation_error}
@@ -70,14 +71,10 @@ world_no_cut true clauses g next e = cc
 world_no_cut false clauses g next e = procedure_no_cut (is_defined clauses (name_of g) (argument_count g)) clauses g next e
 
 -- a row that was found has the name and the number of arguments
-both_true : (a b : Bool) → (a && b) ≡ true → (a ≡ true) × (b ≡ true)
-both_true true b e = (refl, e)
-both_true false b e = absurd cc
-
 row_named : (g : Term) (c : Construct) → is_named (name_of g) (argument_count g) c ≡ true → (c.name ≡ codes "!") × (c.arity ≡ 0) → IsCutGoal g
 row_named g c h is =
-    let both = both_true (same_name c.name (name_of g)) (c.arity == argument_count g) h in
-    (sym (same_text c.name (name_of g) (sym both.0)) ∙ is.0, sym (eqb-true c.arity (argument_count g) both.1) ∙ is.1)
+    let named = both (same_name c.name (name_of g)) (c.arity == argument_count g) h in
+    (sym (same_text c.name (name_of g) (sym named.0)) ∙ is.0, sym (eqb-true c.arity (argument_count g) named.1) ∙ is.1)
 
 abbrev IsFound : Term → Option Construct → Type 0
 IsFound g o = IfFound (λ c. IsCutRow c × (is_named (name_of g) (argument_count g) c ≡ true)) o
