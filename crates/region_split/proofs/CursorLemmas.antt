@@ -15,6 +15,7 @@ use Rattle.region_split.specs.Candidates.{entries_of_clauses, FindsClause, HaveN
 use Rattle.region_split.specs.Solutions.{SolutionView, solution_at}
 use Rattle.region_split.specs.Frames.{AreLeftScoped}
 use Rattle.region_split.specs.ChoicePoints.{Standing, standing_over, nothing_standing, with_entries_on_top, choice_entries, alternative_entries, continuation_at, height_of_cut, AreAlternativesAt, AreChoicesOver, IsChoiceOver, frames_kept, takes_left, all_takes_left, HaveSolution}
+use Rattle.region_split.specs.QueryEnds.{StandsForNoEnd, AreEndsOldest}
 use Rattle.region_split.specs.Regions.{RegionView, left_here, region_setting, standing, entries_of, heights_of, continuation_here, IsConsistentRegion, IsPositionOver}
 use Rattle.region_split.specs.StackOperations.{TakesNewest, TakesClause, TakesSolution}
 use Rattle.region_split.specs.declared.choice.Alternatives.{Alternatives}
@@ -24,6 +25,7 @@ use Rattle.region_split.specs.declared.choice.Trial.{Trial}
 use Rattle.region_split.specs.declared.frame.Frame.{Frame}
 use Rattle.region_split.proofs.CandidateLemmas.{IsThere, is_there, clause_first}
 use Rattle.region_split.proofs.MarkLemmas.{all_marked, more_kinds, marked-append}
+use Rattle.region_split.proofs.OldestEndLemmas.{oldest_changed}
 use Rattle.region_split.proofs.StandingLemmas.{standing-append, IsOver, is_over, IsMeasured, measured, own_height, heights_kept, choices-append, kept-append}
 use Rattle.region_split.proofs.RegionLemmas.{nothing_measured, both_marked, same_entry, pairs, newest, last_kept, lowered, lowered_region, lowered_entries, whole_height}
 
@@ -57,7 +59,7 @@ module _ (r : RegionView) (k : IsConsistentRegion r) (cs : List ChoicePoint) (c 
   undone = record r { store = record r.store { now = m; marks = ms ++ m ∷ [] } }
 
   pub undone_region : IsConsistentRegion undone
-  undone_region = record { program = k.program; choices = subst (AreChoicesOver (region_setting [] r) 0 0 r.choices) marks k.choices; frames = k.frames; older = k.older; marked = k.marked }
+  undone_region = record { program = k.program; choices = subst (AreChoicesOver (region_setting [] r) 0 0 r.choices) marks k.choices; frames = k.frames; older = k.older; marked = k.marked; ends = k.ends }
 
   top : IsChoiceOver (region_setting [] r) (length cs) (frames_kept 0 cs) c m
   top = newest r k cs c ms m m choices marks
@@ -88,11 +90,12 @@ module _ (r : RegionView) (k : IsConsistentRegion r) (cs : List ChoicePoint) (c 
     many : length cs ≡ length ms
     many = pairs r k cs c ms m m choices marks
 
-    pub moved_region : IsConsistentRegion moved
-    moved_region = record {
+    pub moved_region : StandsForNoEnd c → StandsForNoEnd changed → IsConsistentRegion moved
+    moved_region was is = record {
       program = k.program;
       older = k.older;
       choices = choices-append (region_setting [] r) 0 0 (length cs) (frames_kept 0 cs) cs ms changed m (lowered_region r k cs c ms m m choices marks).choices (omega arith) refl (record { own = top.own; older = top.older; scoped = top.scoped; values = values });
+      ends = oldest_changed cs [] c d ((λ e. absurd (was e)), (λ e. absurd (is e))) (subst AreEndsOldest choices k.ends);
       marked = marked-append r.text.bodies r.frames [] cs changed (both_marked r k cs c ms m m choices marks).0 (both_marked r k cs c ms m m choices marks).1;
       frames = let e = kept-append 0 cs changed in let f = last_kept r k cs c ms m m choices marks in let g = k.frames in omega (arith, e, f, g);
     }

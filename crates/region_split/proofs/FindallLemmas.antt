@@ -11,6 +11,7 @@ use Rattle.run_model.specs.Machine.Items.{Continuation}
 use Rattle.run_model.specs.Machine.Entries.{Entry, with_result, collected}
 use Rattle.cell_store.specs.StoreView.{Moment}
 use Rattle.region_split.specs.ChoicePoints.{RegionSetting, Standing, standing_over, nothing_standing, with_entries_on_top, choice_entries, alternative_entries, continuation_at, height_of_cut, AreAlternativesAt, AreChoicesOver, IsCollecting, with_found, frames_kept, AreMarked, AreMarkedOver}
+use Rattle.region_split.specs.QueryEnds.{IsEnd, AreEndsOldest}
 use Rattle.region_split.specs.Regions.{RegionView, left_here, region_setting, standing, entries_of, heights_of, IsConsistentRegion}
 use Rattle.region_split.specs.StackOperations.{AddsResult, HasFindallAt}
 use Rattle.region_split.specs.declared.choice.Alternatives.{Alternatives}
@@ -19,6 +20,7 @@ use Rattle.region_split.specs.declared.choice.ChoicePoint.{ChoicePoint}
 use Rattle.region_split.proofs.ResultLemmas.{more_results}
 use Rattle.region_split.proofs.MarkLemmas.{IsAlike, all_marked, changed_kinds, marked_changed}
 use Rattle.region_split.proofs.StandingLemmas.{standing-append, as_many, is_over, measured, own_height}
+use Rattle.region_split.proofs.OldestEndLemmas.{oldest_changed}
 use Rattle.region_split.proofs.RegionLemmas.{nothing_measured}
 
 -- two stacks that differ in what is under them alone
@@ -74,6 +76,14 @@ found_alike t (Catch catcher recovery) = ((λ h. h), (λ h. h))
 found_alike t (Findall list results) = ((λ h. h), (λ h. h))
 found_alike t QueryEnd = ((λ h. h), (λ h. h))
 
+found_end : (t : Term) (a : Alternatives) → (IsEnd a → IsEnd (with_found t a)) × (IsEnd (with_found t a) → IsEnd a)
+found_end t (Clauses goal clause left) = ((λ h. h), (λ h. h))
+found_end t (Solutions left) = ((λ h. h), (λ h. h))
+found_end t Elsewhere = ((λ h. h), (λ h. h))
+found_end t (Catch catcher recovery) = ((λ h. h), (λ h. h))
+found_end t (Findall list results) = ((λ h. h), (λ h. h))
+found_end t QueryEnd = ((λ h. h), (λ h. h))
+
 collected_over : (h : ℕ) (t : Term) (above es : List Entry) (e : Entry) → length es ≡ h → collected h t (above ++ e ∷ es) ≡ above ++ with_result t e ∷ es
 collected_over h t [] es e l = by_test (nat_eq (length es) h) refl
   where
@@ -113,6 +123,7 @@ module _ (r : RegionView) (k : IsConsistentRegion r) (xs ys : List ChoicePoint) 
     program = k.program;
     older = k.older;
     choices = subst (AreChoicesOver (region_setting [] r) 0 0 (xs ++ found ∷ ys)) (sym marks) (choices_changed (region_setting [] r) t 0 0 xs ys ns ps c m places listed);
+    ends = oldest_changed xs ys c (with_found t c.alternatives) (found_end t c.alternatives) (subst AreEndsOldest choices k.ends);
     marked = marked_changed r.text.bodies r.frames [] xs ys c (with_found t c.alternatives) (found_alike t c.alternatives) (subst (AreMarkedOver r.text.bodies r.frames []) choices k.marked);
     frames = let e = kept_changed 0 xs ys c (with_found t c.alternatives) in let f = ap (frames_kept 0) choices in let g = k.frames in omega (arith, e, f, g);
   }

@@ -2,6 +2,7 @@ pub mod FrameLemmas
 pub mod ScopeLemmas
 pub mod StandingLemmas
 pub mod MarkLemmas
+pub mod OldestEndLemmas
 pub mod RegionLemmas
 pub mod CursorLemmas
 pub mod NextClauseLemmas

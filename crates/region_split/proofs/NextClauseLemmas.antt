@@ -6,6 +6,7 @@ use Rattle.clause_index.specs.declared.cursor.Cursor.{Cursor}
 use Rattle.binding_array.specs.declared.cell.BindingCell.{BindingCell}
 use Rattle.cell_store.specs.StoreView.{Moment, StoreView, IsValueIn, meaning, taken_back, with_marks}
 use Rattle.region_split.specs.Candidates.{FindsClause, HaveNoEntry}
+use Rattle.region_split.specs.QueryEnds.{IsEnd}
 use Rattle.region_split.specs.Regions.{RegionView, IsConsistentRegion, region_setting}
 use Rattle.region_split.specs.Solutions.{SolutionView}
 use Rattle.region_split.specs.ChoicePoints.{HaveSolution}
@@ -101,7 +102,7 @@ module _ (before : RegionView) (k : IsConsistentRegion before) (count : ℕ) (ma
         pub changed_is : IsConsistentRegion (record before { store = st; choices = now })
         changed_is =
             subst IsConsistentRegion (sym (set_region again (Clauses goal next rest) again_is))
-            (moved_region before k choices.before choices.last marks.before marks.last choices.is marks.is (Clauses goal next rest) (next_there before k choices.before choices.last marks.before marks.last choices.is marks.is goal n left last_was next rest found))
+            (moved_region before k choices.before choices.last marks.before marks.last choices.is marks.is (Clauses goal next rest) (next_there before k choices.before choices.last marks.before marks.last choices.is marks.is goal n left last_was next rest found) (λ e. subst IsEnd last_was e) (λ e. e))
 
         pub others_left : TakesClause before (record before { store = st; choices = now }) trial
         others_left =
@@ -120,7 +121,7 @@ module _ (before : RegionView) (k : IsConsistentRegion before) (count : ℕ) (ma
       pub shorter_is : IsConsistentRegion shorter
       shorter_is =
           subst IsConsistentRegion (sym (set_region newest d newest_is))
-          (moved_region before k choices.before choices.last marks.before marks.last choices.is marks.is d (rest_there before k choices.before choices.last marks.before marks.last choices.is marks.is d solution is_last last_takes))
+          (moved_region before k choices.before choices.last marks.before marks.last choices.is marks.is d (rest_there before k choices.before choices.last marks.before marks.last choices.is marks.is d solution is_last last_takes) (λ e. subst IsEnd last_takes.was e) (λ e. subst IsEnd last_takes.is e))
 
       pub solution_taken : TakesSolution before shorter solution newest.after
       solution_taken =

@@ -10,6 +10,7 @@ use Rattle.cell_store.specs.StoreView.{Moment, StoreView, text_at, text_in, take
 use Rattle.cell_store.proofs.UndoingLemmas.{take_within}
 use Rattle.region_split.specs.Frames.{own_body_left, AreLeftScoped}
 use Rattle.region_split.specs.ChoicePoints.{Standing, standing_over, nothing_standing, with_entries_on_top, continuation_at, height_of_cut, IsChoiceOver, AreChoicesOver, AreAlternativesAt, AreMarked, AreMarkedOver, frames_kept}
+use Rattle.region_split.specs.QueryEnds.{AreEndsOldest, MayComeOver}
 use Rattle.region_split.specs.Regions.{RegionView, left_here, region_setting, standing, entries_of, heights_of, entries_on, IsPositionIn, AreAlternativesIn, IsConsistentRegion}
 use Rattle.region_split.specs.StackOperations.{AddsFrame, AddsChoice, CutsTo, TakesNewest, DropsNewest}
 use Rattle.region_split.specs.declared.choice.ChoicePoint.{ChoicePoint}
@@ -17,6 +18,7 @@ use Rattle.region_split.specs.declared.frame.Frame.{Frame}
 use Rattle.region_split.specs.declared.frame.Position.{Position}
 use Rattle.region_split.proofs.FrameLemmas.{kept_left, pushed_left, taken_left, frames_over-append, frames_over-take}
 use Rattle.region_split.proofs.MarkLemmas.{marked_kept, all_marked, more_kinds, cut_kinds, marked-append, marked_below, marked-take, marked_same}
+use Rattle.region_split.proofs.OldestEndLemmas.{oldest-append, oldest-take, oldest_before}
 use Rattle.region_split.proofs.ScopeLemmas.{same_heights}
 use Rattle.region_split.proofs.StandingLemmas.{standing-append, IsOver, is_over, IsMeasured, measured, own_height, lowest_entries, heights_kept, AreSameTo, same_continuation, standing_same, choices_same, as_many, choices-append, choices_below, choice_on_top, choices-take, kept-take, kept-append, choices_named}
 
@@ -40,7 +42,7 @@ module _ (r : RegionView) (k : IsConsistentRegion r) (f : Frame) (n : ℕ) (kept
   same_to p le = kept_left r.text.bodies (take n r.frames) (f ∷ []) p (let l = length-take-le n r.frames within in omega (arith, l, le)) ∙ taken_left r.text.bodies n r.frames p within le
 
   pub framed_region : IsConsistentRegion (record r { frames = framed })
-  framed_region = record { program = k.program; older = frames_over-append 0 n (take n r.frames) f (frames_over-take 0 n r.frames k.older) (let l = length-take-le n r.frames within in omega (arith, l)) own; choices = choices_same (region_setting [] r) framed n 0 0 r.choices r.store.marks same_to k.choices kept; frames = (let l = framed_long in omega (arith, l, kept)); marked = marked_same (region_setting [] r) framed n 0 0 [] r.choices r.store.marks same_to k.choices kept k.marked }
+  framed_region = record { program = k.program; older = frames_over-append 0 n (take n r.frames) f (frames_over-take 0 n r.frames k.older) (let l = length-take-le n r.frames within in omega (arith, l)) own; choices = choices_same (region_setting [] r) framed n 0 0 r.choices r.store.marks same_to k.choices kept; frames = (let l = framed_long in omega (arith, l, kept)); marked = marked_same (region_setting [] r) framed n 0 0 [] r.choices r.store.marks same_to k.choices kept k.marked; ends = k.ends }
 
   stands : (named : List NamedTerm) → standing named (record r { frames = framed }) ≡ standing named r
   stands named = standing_same (region_setting named r) framed n 0 0 nothing_standing r.choices r.store.marks same_to (choices_named (region_setting [] r) named 0 0 r.choices r.store.marks k.choices) kept
@@ -73,13 +75,14 @@ module _ (r : RegionView) (k : IsConsistentRegion r) (c : ChoicePoint) (own : c.
   many : length r.choices ≡ length r.store.marks
   many = as_many (region_setting [] r) 0 0 r.choices r.store.marks k.choices
 
-  pub topped_region : IsConsistentRegion topped
-  topped_region = record {
+  pub topped_region : MayComeOver r.choices c.alternatives → IsConsistentRegion topped
+  topped_region over = record {
     program = k.program;
     older = k.older;
     choices = choices-append (region_setting [] r) 0 0 (length r.choices) (frames_kept 0 r.choices) r.choices r.store.marks c r.store.now k.choices (omega arith) refl (record { own = own; older = older; scoped = position.scoped; values = values });
     frames = let e = kept-append 0 r.choices c in omega (arith, e, within);
     marked = marked-append r.text.bodies r.frames [] r.choices c k.marked position.marked;
+    ends = oldest-append r.choices c over k.ends;
   }
 
   on_top : (named : List NamedTerm) → standing named topped ≡ with_entries_on_top (entries_on named r c r.store.now) (standing named r)
@@ -125,6 +128,7 @@ module _ (r : RegionView) (k : IsConsistentRegion r) (n : ℕ) (le : n ≤ lengt
     choices = choices-take (region_setting [] r) 0 0 n r.choices r.store.marks k.choices;
     frames = let a = kept-take (region_setting [] r) 0 0 n r.choices r.store.marks k.choices in let b = k.frames in omega (arith, a, b);
     marked = marked-take r.text.bodies r.frames n [] r.choices k.marked;
+    ends = oldest-take n r.choices k.ends;
   }
 
   over : (named : List NamedTerm) → IsOver (standing named cut_down) (standing named r)
@@ -180,6 +184,7 @@ module _ (r : RegionView) (k : IsConsistentRegion r) (cs : List ChoicePoint) (c 
     choices = choices_below (region_setting [] r) 0 0 cs ms c m pairs stacked;
     frames = let o = newest.older in let e = last_kept in let f = k.frames in omega (arith, o, e, f);
     marked = both_marked.0;
+    ends = oldest_before cs (c ∷ []) (subst AreEndsOldest choices k.ends);
   }
 
   pub lowered_entries : (named : List NamedTerm) → entries_of named r ≡ entries_on named lowered c m ++ entries_of named lowered

@@ -108,6 +108,7 @@ module _ (r : RegionView) (k : IsConsistentRegion r) (new : StoreView) (adds : A
     frames = k.frames;
     older = k.older;
     marked = k.marked;
+    ends = k.ends;
   }
 
   stands : (named : List NamedTerm) → standing named added ≡ standing named r

@@ -4,6 +4,7 @@ pub mod Solutions
 pub mod ResultLists
 pub mod Frames
 pub mod ChoicePoints
+pub mod QueryEnds
 pub mod Regions
 pub mod StackOperations
 pub mod ClauseTrials

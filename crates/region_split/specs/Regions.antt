@@ -7,6 +7,7 @@ use Rattle.cell_store.specs.StoreView.{StoreView, Moment, text_in}
 use Rattle.region_split.specs.Frames.{LeftItem, left_items, items_at, scoped_item, next_position, IsItemIn, AreLeftScoped, AreFramesOver}
 use Rattle.region_split.specs.Texts.{TextView}
 use Rattle.region_split.specs.ChoicePoints.{RegionSetting, Standing, standing_over, nothing_standing, continuation_at, choice_entries, AreChoicesOver, AreAlternativesAt, IsMarkOf, AreMarked, AreMarkedOver, frames_kept}
+use Rattle.region_split.specs.QueryEnds.{AreEndsOldest}
 use Rattle.region_split.specs.declared.choice.Alternatives.{Alternatives}
 use Rattle.region_split.specs.declared.choice.ChoicePoint.{ChoicePoint}
 use Rattle.region_split.specs.declared.frame.Frame.{Frame}
@@ -93,10 +94,12 @@ IsLeftAt r p Nothing = items_here r p ≡ []
 abbrev pub AreAlternativesIn : RegionView → Alternatives → Type 0
 AreAlternativesIn r alternatives = AreAlternativesAt (region_setting [] r) r.store.now alternatives
 
--- each choice point has its mark of the store and keeps its frames, and each frame goes on in an older one
+-- each choice point has its mark of the store and keeps its frames, the ends of queries are the oldest ones, and each frame
+-- goes on in an older one
 pub record IsConsistentRegion (r : RegionView) : Type 0 where
   pub program : r.store.program ≡ r.text.code
   pub choices : AreChoicesOver (region_setting [] r) 0 0 r.choices r.store.marks
   pub frames : frames_kept 0 r.choices ≤ length r.frames
   pub older : AreFramesOver 0 r.frames
   pub marked : AreMarkedOver r.text.bodies r.frames [] r.choices
+  pub ends : AreEndsOldest r.choices

@@ -8,6 +8,7 @@ ghost use Rattle.clause_compile.specs.AtomNumbers.{name_at};
 ghost use Rattle.cell_store.specs.UnificationSteps.{IsUnified, OnlyBinds};
 ghost use Rattle.au_model.specs.Terms.Named.{NamedTerm};
 ghost use Rattle.region_split.specs.ChoicePoints.{frames_kept, height_of_cut, IsMarkOf};
+ghost use Rattle.region_split.specs.QueryEnds.{AreEndsOldest, MayComeOver};
 ghost use Rattle.region_split.specs.Regions.{entries_of, heights_of, items_here, IsLeftAt, IsItemHere, IsPositionIn, IsPositionOver, AreAlternativesIn};
 ghost use Rattle.region_split.specs.StackOperations.{new_region, item_here, KeepsPositions, PutsBefore, AddsFrame, AddsChoice, CutsTo, TakesNewest, DropsNewest, HasNoClauseOnTop, TakesClause, HasNoSolutionOnTop, TakesSolution, HasFindallAt, AddsResult, StaysStanding};
 
@@ -94,6 +95,16 @@ impl Region {
         ensures { result ≡ length self.now.choices }
     {
         self.choices.len()
+    }
+
+    /// The ends of queries are under all other choice points, each of which has its mark. Does nothing.
+    #[inline(always)]
+    pub fn ends_are_oldest(&self)
+        ensures ends { AreEndsOldest self.now.choices }
+        ensures marks { length self.now.store.marks ≡ length self.now.choices }
+    {
+        // The proof reads off what holds of each region.
+        let _count = self.choices.len();
     }
 
     /// How many choice points a cut in what is called now leaves: all.
@@ -194,6 +205,7 @@ impl Region {
     ) -> Result<(), NoMemory>
         requires position { IsPositionIn self.old after }
         requires values { AreAlternativesIn self.old alternatives }
+        requires over { MayComeOver self.old.choices alternatives }
         ensures ok { OnOk result (AddsChoice self.old self.new alternatives after) }
         ensures err { OnErr result (self.new ≡ self.old) }
     {

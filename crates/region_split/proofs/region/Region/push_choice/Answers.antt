@@ -2,6 +2,7 @@ use Rattle.std.proofs.Common.{◌≡◌, ◌≤◌, List, [], ◌∷◌, ◌++�
 use Rattle.std.specs.Arc.{arc_value}
 use Rattle.cell_store.specs.StoreView.{StoreView}
 use Rattle.region_split.specs.ChoicePoints.{frames_kept}
+use Rattle.region_split.specs.QueryEnds.{MayComeOver}
 use Rattle.region_split.specs.Regions.{RegionView, IsConsistentRegion, IsPositionIn, AreAlternativesIn}
 use Rattle.region_split.specs.StackOperations.{AddsChoice}
 use Rattle.region_split.specs.declared.choice.ChoicePoint.{ChoicePoint}
@@ -35,6 +36,9 @@ module _ (c : After-unwrap) where
   values : AreAlternativesIn before c.args.alternatives
   values = subst (λ x. AreAlternativesIn x c.args.alternatives) (sym c.self.view_is) c.requires.values
 
+  over : MayComeOver before.choices c.args.alternatives
+  over = subst (λ (x : RegionView). MayComeOver x.choices c.args.alternatives) (sym c.self.view_is) c.requires.over
+
   listed : c.push.new.self.items ≡ before.choices ++ choice ∷ []
   listed = let p = c.push.ensures.items in let u = c.unwrap.ensures in let e = c.reserve.ensures.items in grind (arith, p, u, e)
 
@@ -42,7 +46,7 @@ pub invariant_of-self-2 : goal.invariant_of-self-2
 invariant_of-self-2 c =
     subst (λ (cs : List ChoicePoint). IsConsistentRegion (record (before c) { store = c.mark.new.self; choices = cs })) (sym (listed c))
     (subst (λ (st : StoreView). IsConsistentRegion (record (before c) { store = st; choices = (before c).choices ++ choice c ∷ [] })) (sym c.in_ok-mark.ensures.ok)
-    (topped_region (before c) c.self.invariant (choice c) (own c) (older c) (within c) (position c) (values c)))
+    (topped_region (before c) c.self.invariant (choice c) (own c) (older c) (within c) (position c) (values c) (over c)))
 
 pub returns-clause-ok : goal.returns-clause-ok
 returns-clause-ok c =
