@@ -1,4 +1,5 @@
 //! What no clause says of choice points: that calls succeed, and what comes back.
+ghost use Rattle.region_split.specs.QueryEnds.{MayComeOver};
 ghost use Rattle.region_split.specs.Regions.{AreAlternativesIn};
 
 use crate::common::{
@@ -36,13 +37,15 @@ fn kind_of(alternatives: &Alternatives) -> Kind {
 }
 
 fn push(region: &mut Region, alternatives: Alternatives) -> Result<(), NoMemory>
-    requires { AreAlternativesIn region.old alternatives }
+    requires values { AreAlternativesIn region.old alternatives }
+    requires over { MayComeOver region.old.choices alternatives }
 {
     let after = region.nothing_left();
     region.push_choice(alternatives, after)
 }
 
-fn push_query_end(region: &mut Region) -> Result<(), NoMemory> {
+fn push_query_end(rt: &impl Abort, region: &mut Region) -> Result<(), NoMemory> {
+    assert!(rt; region.height() == 0);
     push(region, Alternatives::QueryEnd)
 }
 
@@ -95,7 +98,7 @@ fn cut_to(rt: &impl Abort, region: &mut Region, count: usize) {
 }
 
 fn take_choice_points(rt: &impl Abort, region: &mut Region) -> Result<(), Fail> {
-    push_query_end(region)?;
+    push_query_end(rt, region)?;
     push_elsewhere(region)?;
     push_elsewhere(region)?;
     expect_height(rt, region, 3);
@@ -154,7 +157,7 @@ fn add_result(
 }
 
 fn keep_results(rt: &impl Abort, alloc: Global, region: &mut Region) -> Result<(), Fail> {
-    push_query_end(region)?;
+    push_query_end(rt, region)?;
     push_findall(alloc, region)?;
     add_result(rt, alloc, region, 1)?;
     for (over, wanted) in [(0, false), (1, true), (2, false)] {
@@ -227,15 +230,15 @@ fn bindings_are_taken_back(rt: HostRuntime) -> Result<(), Fail> {
     bind_all(&rt, &mut region)
 }
 
-fn push_each(alloc: Global, region: &mut Region) -> Result<(), NoMemory> {
-    push_query_end(region)?;
+fn push_each(rt: &impl Abort, alloc: Global, region: &mut Region) -> Result<(), NoMemory> {
+    push_query_end(rt, region)?;
     push_findall(alloc, region)?;
     push_catch(region)?;
     push_elsewhere(region)
 }
 
 fn take_each(rt: &impl Abort, alloc: Global, region: &mut Region) -> Result<(), Fail> {
-    push_each(alloc, region)?;
+    push_each(rt, alloc, region)?;
     expect_back_at_nothing(rt, region)?;
     expect_back(rt, region, Back::Findall(BindingCell::Int(5), NOTHING))?;
     expect_back(rt, region, Back::QueryDone)?;

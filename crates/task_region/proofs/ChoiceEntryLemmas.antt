@@ -11,11 +11,11 @@ use Rattle.run_model.specs.Machine.Items.{Continuation, with_next, before, goals
 use Rattle.run_model.specs.Machine.Entries.{Entry, PlainEntry, CatchEntry, FindallEntry, EndEntry, unified, solution_entry, solution_entries}
 use Rattle.cell_store.specs.StoreView.{Moment}
 use Rattle.region_split.specs.ChoicePoints.{RegionSetting, Standing, nothing_standing, alternative_entries, choice_entries, with_entries_on_top, standing_over}
+use Rattle.region_split.specs.QueryEnds.{IsEnd}
 use Rattle.region_split.specs.Regions.{RegionView, region_setting, entries_of}
 use Rattle.region_split.specs.declared.choice.Alternatives.{Alternatives}
 use Rattle.region_split.specs.declared.choice.Alternatives.TheVariants.{Clauses, Solutions, Elsewhere, Catch, Findall, QueryEnd}
 use Rattle.region_split.specs.declared.choice.ChoicePoint.{ChoicePoint}
-use Rattle.task_region.specs.BareRegions.{IsEnd}
 
 -- no end
 abbrev pub IsNoEndEntry : Entry → Type 0

@@ -8,13 +8,14 @@ use Rattle.au_model.proofs.EachLemmas.{each-append}
 use Rattle.run_model.specs.Machine.Entries.{Entry, PlainEntry, CatchEntry, FindallEntry, EndEntry}
 use Rattle.cell_store.specs.StoreView.{Moment}
 use Rattle.region_split.specs.ChoicePoints.{RegionSetting, Standing, standing_over, nothing_standing, with_entries_on_top, choice_entries, continuation_at, height_of_cut}
+use Rattle.region_split.specs.QueryEnds.{StandsForNoEnd, AreEndsOldest}
 use Rattle.region_split.specs.Regions.{region_setting}
 use Rattle.region_split.specs.declared.choice.ChoicePoint.{ChoicePoint}
 use Rattle.region_split.proofs.StandingLemmas.{standing-append, is_over, IsMeasured, measured, own_height, heights_kept}
 use Rattle.region_split.proofs.RegionLemmas.{nothing_measured}
 use Rattle.region_floor.specs.BareFloors.{bare_floor, AreOwn}
 use Rattle.region_floor.proofs.FloorSizeLemmas.{bare-size}
-use Rattle.task_region.specs.BareRegions.{StandsForNoEnd, AreEndsOldest, EndsAreFloor}
+use Rattle.task_region.specs.BareRegions.{EndsAreFloor}
 use Rattle.task_region.proofs.ChoiceEntryLemmas.{IsNoEndEntry, alternatives_no_end, end_is}
 
 -- how many ends

@@ -2,8 +2,11 @@
 use Rattle.std.proofs.Common.{◌≡◌, ◌⊎◌, inl, inr, ℕ, suc, ◌+◌, ◌<◌, ◌≤◌, List, [], ◌∷◌, ◌++◌, length, length-append, None, refl, sym, ap, ◌∙◌, subst, arith}
 use Rattle.std.proofs.lemmas.Bool.{cases_lt}
 use Rattle.au_model.specs.Terms.Named.{NamedTerm}
+use Rattle.au_model.specs.Terms.Each.{Each}
+use Rattle.au_model.proofs.EachLemmas.{each-append}
 use Rattle.run_model.specs.Machine.Entries.{EndEntry}
 use Rattle.region_split.specs.ChoicePoints.{Standing, alternative_entries, continuation_at, height_of_cut, standing_over, nothing_standing}
+use Rattle.region_split.specs.QueryEnds.{IsEnd}
 use Rattle.region_split.specs.Regions.{RegionView, region_setting, standing, entries_of, heights_of}
 use Rattle.region_split.specs.StackOperations.{AddsChoice}
 use Rattle.region_split.specs.declared.choice.Alternatives.TheVariants.{QueryEnd}
@@ -23,6 +26,7 @@ no_floor r e = record {
   entries = λ named. ap (λ (cs : List ChoicePoint). (standing_over (region_setting named r) nothing_standing cs r.store.marks).entries) (none_there r.choices e);
   below = λ named cut lt. absurd (omega (arith, lt));
   many = e;
+  ends = subst (Each (λ c. IsEnd c.alternatives)) (sym (none_there r.choices e)) tt;
   text = refl;
   now = refl;
 }
@@ -51,6 +55,7 @@ module _ (old r new : RegionView) (count : ℕ) (nothing : Position) (w : LaysFl
     entries = λ named. entries_more named ∙ ap bare_floor (let e : suc count ≡ count + 1 = omega arith in e);
     below = λ named cut lt. below_more named cut lt (cases_lt cut count);
     many = ap (λ (x : RegionView). length x.choices) a.others ∙ (length-append r.choices (a.choice ∷ []) ∙ (let m = w.many in omega (arith, m)));
+    ends = subst (λ (x : RegionView). Each (λ c. IsEnd c.alternatives) x.choices) (sym a.others) (each-append (λ c. IsEnd c.alternatives) r.choices (a.choice ∷ []) w.ends (subst IsEnd (sym a.is.0) tt, tt));
     text = ap (λ (x : RegionView). x.text) a.others ∙ w.text;
     now = ap (λ (x : RegionView). x.store.now) a.others ∙ w.now;
   }

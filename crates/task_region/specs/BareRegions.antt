@@ -1,14 +1,12 @@
 -- A region over a bare floor: its oldest choice points are the ends of the floor.
-use Rattle.std.specs.Prelude.{◌≡◌, ◌≤◌, ◌<◌, ◌⊎◌, ℕ, List, [], ◌∷◌, length}
+use Rattle.std.specs.Prelude.{◌≡◌, ◌≤◌, ◌<◌, ℕ, List, length}
 use Rattle.au_model.specs.Terms.Each.{Each}
 use Rattle.au_model.specs.Terms.Named.{NamedTerm}
 use Rattle.run_model.specs.Machine.Entries.{Entry}
 use Rattle.tree_model.specs.Levels.{Level}
 use Rattle.region_split.specs.ChoicePoints.{height_of_cut}
+use Rattle.region_split.specs.QueryEnds.{IsEnd, AreEndsOldest}
 use Rattle.region_split.specs.Regions.{RegionView, entries_of, heights_of}
-use Rattle.region_split.specs.declared.choice.Alternatives.{Alternatives}
-use Rattle.region_split.specs.declared.choice.Alternatives.TheVariants.{Clauses, Solutions, Elsewhere, Catch, Findall, QueryEnd}
-use Rattle.region_split.specs.declared.choice.ChoicePoint.{ChoicePoint}
 use Rattle.region_floor.specs.BareFloors.{bare_floor, bare_stack, AreOwn}
 
 -- so many of the oldest choice points stand for one entry each: cuts to them are those to heights of the floor, and no others are
@@ -22,27 +20,11 @@ pub record LaysFloor (old new : RegionView) (floor : ℕ) : Type 0 where
   pub entries : (named : List NamedTerm) → entries_of named new ≡ bare_floor floor
   pub below : (named : List NamedTerm) (cut : ℕ) → cut < floor → height_of_cut (heights_of named new) cut ≡ cut
   pub many : length new.choices ≡ floor
+  pub ends : Each (λ c. IsEnd c.alternatives) new.choices
   pub text : new.text ≡ old.text
   pub now : new.store.now ≡ old.store.now
 
--- the end of a query
-abbrev pub IsEnd : Alternatives → Type 0
-IsEnd (Clauses goal clause left) = ⊥
-IsEnd (Solutions left) = ⊥
-IsEnd Elsewhere = ⊥
-IsEnd (Catch catcher recovery) = ⊥
-IsEnd (Findall list results) = ⊥
-IsEnd QueryEnd = Unit {0}
-
-abbrev pub StandsForNoEnd : ChoicePoint → Type 0
-StandsForNoEnd c = IsEnd c.alternatives → ⊥
-
--- the ends of queries are under all other choice points
-abbrev pub AreEndsOldest : List ChoicePoint → Type 0
-AreEndsOldest [] = Unit {0}
-AreEndsOldest (c ∷ cs) = (IsEnd c.alternatives × AreEndsOldest cs) ⊎ Each StandsForNoEnd (c ∷ cs)
-
--- and so they are the floor
+-- the ends of queries are under all other choice points, and so they are the floor
 abbrev pub EndsAreFloor : Type 0
 EndsAreFloor =
     (named : List NamedTerm) (here : RegionView) (levels : List Level) (own : List Entry) → AreEndsOldest here.choices
