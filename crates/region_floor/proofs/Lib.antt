@@ -11,3 +11,4 @@ pub mod OwnBallLemmas
 pub mod GateTopLemmas
 pub mod RunLemmas
 pub mod RegionRunLemmas
+pub mod NextNumberLemmas

@@ -58,7 +58,7 @@ term-outer n (CatchMark h) t o = o
 term-outer n (CollectMark u h) t o = o
 term-outer n (RemovalItem k) t o = o
 
-now-outer : (n : ℕ) (items : List (Item ℕ)) (vs : List NamedTerm) → Each (IsOuterMark n) items → Each (IsOuterMark n) (items_now items vs)
+pub now-outer : (n : ℕ) (items : List (Item ℕ)) (vs : List NamedTerm) → Each (IsOuterMark n) items → Each (IsOuterMark n) (items_now items vs)
 now-outer n [] vs h = tt
 now-outer n (i ∷ items) [] h = tt
 now-outer n (i ∷ items) (v ∷ vs) h = (term-outer n i v.term h.0, now-outer n items vs h.1)

@@ -5,3 +5,4 @@ pub mod BallLaws
 pub mod GateLaws
 pub mod RunLaws
 pub mod RegionRuns
+pub mod NextNumbers

@@ -3,6 +3,7 @@ ghost use Rattle.region_floor.specs.RegionRuns.{RegionStarts, FreeStepsStand, Co
 ghost use Rattle.region_floor.specs.RegionRuns.{WorldGoalsStop, HaltsStop, CutsStop, GoalsLoaded, MarksSkipped, AnswersStop};
 ghost use Rattle.region_floor.specs.RegionRuns.{RemovalsStop, ResultsStop, NothingStops, EndsAreEmpty, NothingIsEmpty, EntriesByHeights, MarksAreOuter};
 ghost use Rattle.region_floor.specs.RegionRuns.{NoBallIsLeft};
+ghost use Rattle.region_floor.specs.NextNumbers.{NextNeverFalls};
 
 /// A region that defers all that is left to do stands at the start of the private run; free steps leave it where it is.
 pub fn region_stands_at_start()
@@ -46,4 +47,9 @@ pub fn region_ends()
 pub fn alternatives_start_regions()
     ensures entry { EntriesByHeights }
     ensures outer { MarksAreOuter }
+{}
+
+/// Where a goal or what is deferred is on top, the next variable number is not below the one with which the run started.
+pub fn numbers_never_fall()
+    ensures { NextNeverFalls }
 {}
