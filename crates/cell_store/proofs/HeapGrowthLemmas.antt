@@ -1,6 +1,5 @@
 -- Names and terms added to the heap.
 use Rattle.std.proofs.Common.{◌≡◌, inl, inr, ℕ, suc, ◌+◌, ◌-◌, ◌<◌, ◌≤◌, ◌^◌, Bool, true, false, nat_lt, List, [], ◌∷◌, ◌++◌, length, length-append, take, drop, reverse, Some, None, refl, sym, ap, ap₂, ◌∙◌, subst, arith, append-nil, append_assoc}
-use Rattle.std.proofs.Math.Seq.{take-append_seam}
 use Rattle.std.proofs.lemmas.Bool.Decides.{nat_tests}
 use Rattle.std.proofs.lemmas.List.{length-take-le, length-reverse}
 use Rattle.au_term.specs.PrefixOrder.{arity}
@@ -8,7 +7,7 @@ use Rattle.au_term.specs.Shifted.{shifted_cell}
 use Rattle.au_term.specs.declared.cell.Cell.{Cell}
 use Rattle.au_term.specs.declared.cell.Cell.TheVariants.{Var as VarCell, Int as IntCell, Atom as AtomCell, Functor as FunctorCell}
 use Rattle.clause_compile.specs.AtomNumbers.{name_at, number_of_name, AreDistinct, IsNumbered}
-use Rattle.clause_compile.specs.Places.{CodeView, AreSound, IsArity, Keeps, ArePlacesOf, AddsCell, HasMorePlaces, compound_place}
+use Rattle.clause_compile.specs.Places.{CodeView, AreSound, IsArity, Keeps, ArePlacesOf, AddsCell, compound_place}
 use Rattle.clause_compile.specs.declared.place.Place.{Place}
 use Rattle.clause_compile.specs.declared.place.Place.TheVariants.{Functor}
 use Rattle.clause_compile.proofs.AtomNumberLemmas.{stands_there, stands_nowhere, name_at-front}
@@ -173,10 +172,6 @@ module _ (h named now : HeapView) (name : List ℕ) (f n at : ℕ) (before left 
       small = few_places room;
     };
   }
-
--- what was added is taken back
-pub cut_back : (made some now : List Place) (n : ℕ) → HasMorePlaces made some → n ≡ length made → now ≡ take n some → now ≡ made
-cut_back made some now n g e t = t ∙ (ap (take n) g.is ∙ (ap (λ j. take j (made ++ g.more)) e ∙ take-append_seam made g.more))
 
 pub places_counted : (h named : HeapView) (name : List ℕ) (f : ℕ) → IsNumberedIn h named name f → (program : CodeView) (names : List (List ℕ)) (made : List Place) → heap_of program names made ≡ named → length (heap_text h).places ≡ length program.places + length made
 places_counted h named name f k program names made v =

@@ -5,7 +5,6 @@ pub mod SubstitutionLemmas
 pub mod UndoingLemmas
 pub mod StoreLemmas
 pub mod AddedTextLemmas
-pub mod HeapLemmas
 pub mod HeapGrowthLemmas
 pub mod DereferenceLemmas
 pub mod ArgumentLemmas

@@ -10,6 +10,14 @@ pub record HeapView : Type 0 where
   pub names : List (List ℕ)
   pub made : List Place
 
+-- the places of a program's text, and behind them those that were added
+pub record PlacesView : Type 0 where
+  pub program : List Place
+  pub made : List Place
+
+abbrev pub all_places : PlacesView → List Place
+all_places p = p.program ++ p.made
+
 -- all of it as one text
 abbrev pub heap_text : HeapView → CodeView
 heap_text h = record { names = h.program.names ++ h.names; places = h.program.places ++ h.made }

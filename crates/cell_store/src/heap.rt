@@ -7,39 +7,45 @@ ghost use Rattle.clause_compile.specs.AtomNumbers.{name_at};
 ghost use Rattle.clause_compile.specs.Places.{IsArity, IsPlaced, AddsCell, ArePlacesOf};
 ghost use Rattle.cell_store.specs.HeapView.{heap_text, cut_heap, IsSoundHeap, GrowsHeap, IsNumberedIn};
 
+use crate::heap_places::HeapPlaces;
 use au_term::{Atom, Cell, NoMemory, Shared, VarNo};
-use clause_compile::{AtomNumbers, Code, Place, compound_place, push_block};
+use clause_compile::{AtomNumbers, Code, Place, compound_place};
 use std::alloc::Global;
 use std::marker::Model;
 use std::sync::Arc;
 
-/// A program's text, which is shared and stays as it is, and the names and places that were added behind it.
+/// A program's text, which is shared and stays as it is, and the names and places that were added behind it. Its places are
+/// copied: no place is read so often as in the heap.
 #[derive(Drop)]
 pub(crate) struct Heap {
     program: Arc<Code>,
     names: AtomNumbers,
-    made: Vec<Place>,
+    places: HeapPlaces,
 }
 
 impl Model for Heap {
+    ghost use Rattle.std.specs.Prelude.{◌≡◌};
     ghost use Rattle.std.specs.Arc.{arc_value};
     ghost use Rattle.cell_store.specs.HeapView.{HeapView};
 
     ghost Value = { HeapView };
 
-    ghost view = { λ h. record { program = arc_value h.program; names = h.names; made = h.made.items } };
+    ghost view = { λ h. record { program = arc_value h.program; names = h.names; made = h.places.made } };
+
+    ghost invariant = { λ h. h.places.program ≡ (arc_value h.program).places };
 }
 
 impl Heap {
     /// Nothing was added.
-    pub(crate) fn new(alloc: Global, program: Arc<Code>) -> Heap
-        ensures { result ≡ record { program = arc_value program; names = []; made = [] } }
+    pub(crate) fn new(alloc: Global, program: Arc<Code>) -> Result<Heap, NoMemory>
+        ensures { IfOk result (λ h. h ≡ record { program = arc_value program; names = []; made = [] }) }
     {
-        Heap {
+        let places = HeapPlaces::new(alloc, &program)?;
+        Ok(Heap {
             program,
             names: AtomNumbers::new(alloc),
-            made: Vec::new(alloc),
-        }
+            places,
+        })
     }
 
     /// How many places were added.
@@ -47,7 +53,7 @@ impl Heap {
     pub(crate) fn made(&self) -> usize
         ensures { result ≡ length self.now.made }
     {
-        self.made.len()
+        self.places.made()
     }
 
     /// The place with a number.
@@ -56,12 +62,7 @@ impl Heap {
         requires { at < length (heap_text self.now).places }
         ensures { drop at (heap_text self.now).places ≡ result ∷ drop (at + 1) (heap_text self.now).places }
     {
-        let program = self.program.len();
-        if at < program {
-            self.program.place(at)
-        } else {
-            self.made[at - program]
-        }
+        self.places.place(at)
     }
 
     /// The name with a number.
@@ -138,16 +139,12 @@ impl Heap {
         ensures grown { GrowsHeap self.old self.new }
     {
         let number = self.number(name)?;
-        let made = self.made.len();
-        let at = self.program.len() + made;
+        let at = self.places.len();
         if at + count as usize >= u32::MAX as usize {
             return Err(NoMemory);
         }
         let place = compound_place(at, count, stack);
-        if let Err(error) = push_block(number, count, stack, &mut self.made) {
-            self.made.truncate(made);
-            return Err(error);
-        }
+        self.places.push_block(number, count, stack)?;
         put(place, stack)
     }
 
@@ -177,7 +174,7 @@ impl Heap {
     pub(crate) fn cut_to(&mut self, made: usize)
         ensures { self.new ≡ cut_heap made self.old }
     {
-        self.made.truncate(made);
+        self.places.cut_to(made);
     }
 }
 

@@ -20,6 +20,7 @@
 
 pub mod arguments;
 mod heap;
+mod heap_places;
 mod made;
 mod mark;
 mod occurs;

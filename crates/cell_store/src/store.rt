@@ -69,8 +69,9 @@ impl Store {
         if program.len() > u32::MAX as usize {
             return Err(NoMemory);
         }
+        let heap = Heap::new(alloc, program)?;
         Ok(Store {
-            heap: Heap::new(alloc, program),
+            heap,
             cells: BindingArray::new(alloc),
             trail: Vec::new(alloc),
             marks: Vec::new(alloc),

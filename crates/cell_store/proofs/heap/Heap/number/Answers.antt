@@ -23,7 +23,7 @@ returns-in-Some-clause-grown c = grows_same c.args.self.now c.requires
 pub returns-in_err-number-clause-grown : goal.returns-in_err-number-clause-grown
 returns-in_err-number-clause-grown c =
     let s = c.self.inside in
-    let same : heap_of (arc_value s.program) c.number.new.self s.made.items ≡ c.args.self.now = ap (λ ns. heap_of (arc_value s.program) ns s.made.items) c.in_err-number.ensures.err ∙ c.self.view_is in
+    let same : heap_of (arc_value s.program) c.number.new.self s.places.made ≡ c.args.self.now = ap (λ ns. heap_of (arc_value s.program) ns s.places.made) c.in_err-number.ensures.err ∙ c.self.view_is in
     subst (GrowsHeap c.args.self.now) (sym same) (grows_same c.args.self.now c.requires)
 
 -- what is known once the name has its number among those that were added
@@ -47,19 +47,19 @@ pub returns-in_default-try_from-clause-grown : goal.returns-in_default-try_from-
 returns-in_default-try_from-clause-grown c =
     let s = c.self.inside in
     let missing = ap (λ (p : CodeView). number_of_name p.names c.args.name.now) (sym c.deref.ensures) ∙ (sym c.find.ensures ∙ none_if c.find.result c.in_default.not-Some) in
-    grows c.args.self.now (arc_value s.program) s.names c.number.new.self s.made.items c.self.view_is c.args.name.now c.in_ok-number.number c.requires missing c.in_ok-number.ensures.ok c.len-names.ensures.distinct
+    grows c.args.self.now (arc_value s.program) s.names c.number.new.self s.places.made c.self.view_is c.args.name.now c.in_ok-number.number c.requires missing c.in_ok-number.ensures.ok c.len-names.ensures.distinct
 
 pub returns-in_default-checked_add-clause-grown : goal.returns-in_default-checked_add-clause-grown
 returns-in_default-checked_add-clause-grown c =
     let s = c.self.inside in
     let missing = ap (λ (p : CodeView). number_of_name p.names c.args.name.now) (sym c.deref.ensures) ∙ (sym c.find.ensures ∙ none_if c.find.result c.in_default.not-Some) in
-    grows c.args.self.now (arc_value s.program) s.names c.number.new.self s.made.items c.self.view_is c.args.name.now c.in_ok-number.number c.requires missing c.in_ok-number.ensures.ok c.len-names.ensures.distinct
+    grows c.args.self.now (arc_value s.program) s.names c.number.new.self s.places.made c.self.view_is c.args.name.now c.in_ok-number.number c.requires missing c.in_ok-number.ensures.ok c.len-names.ensures.distinct
 
 pub returns-clause-grown : goal.returns-clause-grown
 returns-clause-grown c =
     let s = c.self.inside in
     let missing = ap (λ (p : CodeView). number_of_name p.names c.args.name.now) (sym c.deref.ensures) ∙ (sym c.find.ensures ∙ none_if c.find.result c.in_default.not-Some) in
-    grows c.args.self.now (arc_value s.program) s.names c.number.new.self s.made.items c.self.view_is c.args.name.now c.in_ok-number.number c.requires missing c.in_ok-number.ensures.ok c.len-names.ensures.distinct
+    grows c.args.self.now (arc_value s.program) s.names c.number.new.self s.places.made c.self.view_is c.args.name.now c.in_ok-number.number c.requires missing c.in_ok-number.ensures.ok c.len-names.ensures.distinct
 
 pub returns-clause-numbered : goal.returns-clause-numbered
 returns-clause-numbered c =
@@ -67,5 +67,5 @@ returns-clause-numbered c =
     let missing = ap (λ (p : CodeView). number_of_name p.names c.args.name.now) (sym c.deref.ensures) ∙ (sym c.find.ensures ∙ none_if c.find.result c.in_default.not-Some) in
     let count : c.names.result ≡ length (arc_value s.program).names = c.names.ensures.count ∙ ap (λ (p : CodeView). length p.names) c.deref-2.ensures in
     let number : length (arc_value s.program).names + c.in_ok-number.number ≡ c.in-Some-checked_add.number = omega (arith, count, c.in-Ok.ensures.1, c.in-Some-checked_add.ensures.1) in
-    subst (IsNumberedIn c.args.self.now (heap_of (arc_value s.program) c.number.new.self s.made.items) c.args.name.now) number
-    (numbered c.args.self.now (arc_value s.program) s.names c.number.new.self s.made.items c.self.view_is c.args.name.now c.in_ok-number.number c.requires missing c.in_ok-number.ensures.ok c.len-names.ensures.distinct)
+    subst (IsNumberedIn c.args.self.now (heap_of (arc_value s.program) c.number.new.self s.places.made) c.args.name.now) number
+    (numbered c.args.self.now (arc_value s.program) s.names c.number.new.self s.places.made c.self.view_is c.args.name.now c.in_ok-number.number c.requires missing c.in_ok-number.ensures.ok c.len-names.ensures.distinct)

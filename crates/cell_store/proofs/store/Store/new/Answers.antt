@@ -14,15 +14,15 @@ invariant_of-result c =
     let count : c.len.result ≡ length program.places = c.len.ensures.count ∙ ap (λ (p : CodeView). length p.places) c.deref-2.ensures in
     let few : length program.places < 2 ^ 32 = let a = c.if-len.false in omega arith in
     let apart : AreDistinct program.names = subst (λ (p : CodeView). AreDistinct p.names) c.deref.ensures c.names-names.ensures.distinct in
-    subst (λ ms. IsConsistent (parts c.new.result c.new-2.result c.new-3.result.items ms)) (sym c.new-4.ensures.items)
-    (subst (λ t. IsConsistent (parts c.new.result c.new-2.result t [])) (sym c.new-3.ensures.items)
-    (subst (λ cs. IsConsistent (parts c.new.result cs [] [])) (sym c.new-2.ensures) (new_parts program text few apart c.new.result (new_heap program c.new.result c.new.ensures))))
+    subst (λ ms. IsConsistent (parts c.in_ok-heap.heap c.new-2.result c.new-3.result.items ms)) (sym c.new-4.ensures.items)
+    (subst (λ t. IsConsistent (parts c.in_ok-heap.heap c.new-2.result t [])) (sym c.new-3.ensures.items)
+    (subst (λ cs. IsConsistent (parts c.in_ok-heap.heap cs [] [])) (sym c.new-2.ensures) (new_parts program text few apart c.in_ok-heap.heap (new_heap program c.in_ok-heap.heap c.in_ok-heap.ensures))))
 
-whole : (c : After-new-6) → view_of (parts c.new.result c.new-2.result c.new-3.result.items c.new-4.result.items) ≡ new_store (arc_value c.args.program)
-whole c = new_view (arc_value c.args.program) c.new.result c.new-2.result c.new-3.result.items c.new-4.result.items c.new.ensures c.new-2.ensures c.new-3.ensures.items c.new-4.ensures.items
+whole : (c : After-new-6) → view_of (parts c.in_ok-heap.heap c.new-2.result c.new-3.result.items c.new-4.result.items) ≡ new_store (arc_value c.args.program)
+whole c = new_view (arc_value c.args.program) c.in_ok-heap.heap c.new-2.result c.new-3.result.items c.new-4.result.items c.in_ok-heap.ensures c.new-2.ensures c.new-3.ensures.items c.new-4.ensures.items
 
 pub returns-clause-new : goal.returns-clause-new
 returns-clause-new c = whole c
 
 pub returns-clause-text : goal.returns-clause-text
-returns-clause-text c = new_heap (arc_value c.args.program) c.new.result c.new.ensures
+returns-clause-text c = new_heap (arc_value c.args.program) c.in_ok-heap.heap c.in_ok-heap.ensures
