@@ -1,7 +1,7 @@
 use Rattle.std.proofs.Common.{◌≡◌, ◌+◌, ◌∷◌, [], ◌++◌, length, length-append, take, reverse, ap, ◌∙◌, arith}
 use Rattle.std.proofs.lemmas.Result.{on_ok_weaker}
 use Rattle.std.specs.Arc.{arc_value}
-use Rattle.clause_compile.specs.Places.{CodeView, compound_place}
+use Rattle.clause_compile.specs.Places.{compound_place}
 use Rattle.clause_compile.specs.declared.place.Place.TheVariants.{Functor}
 use Rattle.cell_store.specs.HeapView.{HeapView, PlacesView, heap_text}
 use Rattle.cell_store.proofs.HeapGrowthLemmas.{heap_of, places_counted, compound_adds, compound_grows}

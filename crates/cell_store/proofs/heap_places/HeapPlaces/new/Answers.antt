@@ -1,4 +1,4 @@
-use Rattle.std.proofs.Common.{◌≡◌, ◌+◌, ◌∷◌, [], ◌++◌, ◌∙◌, take, ap, sym}
+use Rattle.std.proofs.Common.{◌∷◌, [], ◌++◌, ◌∙◌, take, ap, sym}
 use Rattle.std.proofs.Math.Seq.{take-add}
 use Rattle.cell_store.proofs.heap_places.HeapPlaces.new.Goals as goal
 
