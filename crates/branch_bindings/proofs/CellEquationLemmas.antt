@@ -10,12 +10,10 @@ use Rattle.binding_array.specs.declared.cell.BindingCell.{BindingCell}
 use Rattle.binding_array.specs.declared.cell.BindingCell.TheVariants.{Free, Var, Int, Atom, Compound}
 use Rattle.cell_store.specs.Values.{IsCell, AreCells}
 use Rattle.cell_store.proofs.CellMeaningLemmas.{IsCompound, compound, means_compound, is_free, is_bound_cell, free_or_bound, free_stands, bound_stands}
+use Rattle.cell_store.proofs.SubstitutionLemmas.{no_variable}
 use Rattle.branch_bindings.specs.BindingEquations.{IsBindingBy, AreBindingsBy}
 use Rattle.branch_bindings.specs.CellEquations.{IsCellEquation, AreBindingsOf, UnifierIsRepresented}
 use Rattle.branch_bindings.proofs.SameUnifierLemmas.{unifier_is_made}
-
-no_variable : (t : Term) (w : ℕ) → IsCompound t → t ≡ VarTerm w → ⊥
-no_variable t w (compound f ts) e = cc
 
 -- a cell that has a variable has an older one
 older_cell : (code : CodeView) (n v w : ℕ) (c : BindingCell) → IsBoundCell c → IsFalling v c → IsCell code n c → cell_term code c ≡ VarTerm w → w < v

@@ -223,7 +223,7 @@ pub final : (code : CodeView) (cells : List BindingCell) (v : ℕ) → AreConsis
 final code cells v a = is_final code cells (substitution_in code cells) a.falling a.values a.represents v
 
 -- a variable that stands for itself is free
-no_variable : (t : Term) (u : ℕ) → IsCompound t → t ≡ VarTerm u → ⊥
+pub no_variable : (t : Term) (u : ℕ) → IsCompound t → t ≡ VarTerm u → ⊥
 no_variable t u (compound f ts) e = absurd cc
 
 pub resolved_compound : (s : Substitution) (t : Term) → IsCompound t → IsCompound (resolve s t)

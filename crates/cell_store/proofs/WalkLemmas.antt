@@ -3,10 +3,11 @@ use Rattle.std.proofs.Common.{◌≡◌, ℕ, zero, suc, ◌+◌, ◌-◌, ◌<�
 use Rattle.std.proofs.Math.Bool.{or_assoc}
 use Rattle.std.specs.Option.{option_to_list}
 use Rattle.std.proofs.lemmas.List.{map-append, nil_from_length, reverse-append}
-use Rattle.au_term.specs.Term.{Term, VarTerm, IntTerm, AtomTerm, Compound as CompoundTerm, more}
+use Rattle.au_term.specs.Term.{Term, Compound as CompoundTerm, more}
 use Rattle.au_model.specs.Terms.Lists.{terms_from}
 use Rattle.au_model.specs.Terms.Substitutions.{Substitution, apply_all, value_of, resolve, occurs, occurs_in}
 use Rattle.au_model.specs.Terms.Unifier.{size, size_all}
+use Rattle.au_model.proofs.UnifierMeasureLemmas.{size_pos}
 use Rattle.clause_compile.specs.AtomNumbers.{name_at}
 use Rattle.clause_compile.specs.Places.{CodeView}
 use Rattle.binding_array.specs.declared.cell.BindingCell.{BindingCell}
@@ -135,12 +136,6 @@ searching_work st list = sizes (resolved_terms (substitution st) (pending_terms 
 pub search_starts : (st : StoreView) (x : ℕ) (a : Arguments) → AreThere (text_in st) st.now.next a → IsSearching st x (is_in_any st x a) (a ∷ [])
 search_starts st x a h = record { same = ap (λ ts. occurs_in_any x (resolved_terms (substitution st) ts)) (append-nil (arguments_in (text_in st) a)); there = (h, tt) }
 
-some_size : (t : Term) → 0 < size t
-some_size (VarTerm n) = omega arith
-some_size (IntTerm z) = omega arith
-some_size (AtomTerm a) = omega arith
-some_size (CompoundTerm f ts) = omega arith
-
 module _ (st : StoreView) (x : ℕ) (answer : Bool) (a : Arguments) (waiting : List Arguments) (h : IsSearching st x answer (a ∷ waiting)) where
   abbrev first : Term
   first = argument_meaning st a.base a.at
@@ -159,7 +154,7 @@ module _ (st : StoreView) (x : ℕ) (answer : Bool) (a : Arguments) (waiting : L
       same = sym (ap (λ b. b || occurs_in_any x (resolved_terms (substitution st) (pending_terms (text_in st) others))) o) ∙ (ap (occurs_in_any x) (listed others kept) ∙ h.same);
       there = (kept (text_in st) st.now.next h.there.0 h.there.1).there;
     },
-    omega (arith, ap sizes (listed others kept), some_size (first)),
+    omega (arith, ap sizes (listed others kept), size_pos (first)),
   )
 
   pub search_goes_inside : (others : List Arguments) → KeepsRest a waiting others → (b : Arguments) → AreInside st x (first) b → IsSearching st x answer (b ∷ others) × (searching_work st (b ∷ others) < searching_work st (a ∷ waiting))

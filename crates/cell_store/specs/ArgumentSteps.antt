@@ -15,7 +15,7 @@ use Rattle.cell_store.specs.declared.occurs.Searched.{Searched}
 use Rattle.cell_store.specs.declared.occurs.Searched.TheVariants.{Found, Past, Inside}
 
 -- a value that stands for what an argument does, and is no bound variable
-pub record IsReached (st : StoreView) (base at : ℕ) (value : BindingCell) : Type 0 where
+pub record IsArgumentReached (st : StoreView) (base at : ℕ) (value : BindingCell) : Type 0 where
   pub same : meaning st value ≡ argument_meaning st base at
   pub unbound : IsUnbound (substitution st) value
   pub there : IsValueIn st value

@@ -8,7 +8,7 @@ ghost use Rattle.au_term.specs.Shifted.{shifted};
 ghost use Rattle.clause_compile.specs.AtomNumbers.{name_at};
 ghost use Rattle.clause_compile.specs.Places.{IsPlaceOf, meaning_in};
 ghost use Rattle.cell_store.specs.Arguments.{HasFunctor, IsArgument, IsArgumentValue, argument_at, code_place};
-ghost use Rattle.cell_store.specs.ArgumentSteps.{IsCompoundPlace, IsFreshPlace, IsReached};
+ghost use Rattle.cell_store.specs.ArgumentSteps.{IsCompoundPlace, IsFreshPlace, IsArgumentReached};
 ghost use Rattle.cell_store.specs.Undoing.{AreNested, freed};
 ghost use Rattle.cell_store.specs.FreshVariables.{AreYoung, IsOlder};
 ghost use Rattle.cell_store.specs.MadeBindings.{AreMadeSince};
@@ -209,7 +209,7 @@ impl Store {
     #[inline(always)]
     pub(crate) fn reached(&self, at: u32, base: u32) -> BindingCell
         requires { IsArgument (text_in self.now) self.now.now.next base at }
-        ensures reached { IsReached self.now base at result }
+        ensures reached { IsArgumentReached self.now base at result }
         ensures short { at < 2 ^ 32 - 1 }
     {
         self.dereference(self.argument(at, base))
