@@ -11,7 +11,7 @@ ghost use Rattle.tree_closing.specs.Closings.{ComesToRest, HasSleeper};
 ghost use Rattle.branch_reading.specs.Readings.{reading};
 ghost use Rattle.public_tree.specs.Opening.{opening_body};
 ghost use Rattle.public_tree.specs.PublicClosing.{IsBodyGiven};
-ghost use Rattle.public_tree.specs.Answering.{answer_credit, is_first_at, GoesOnAs, EndsAs, HaltsAs, FallsAs};
+ghost use Rattle.public_tree.specs.Answering.{answer_credit, is_first_at, GoesOnAs, EndsAs, OpensAs, HaltsAs, FallsAs};
 ghost use Rattle.tree_core.specs.Histories.{state_of};
 ghost use Rattle.tree_core.specs.Turns.{where_legal, answering_of};
 
@@ -90,6 +90,29 @@ impl<J: JobBrand> Tree<J> {
             return Ok(Answering::HasEnded);
         }
         self.public.close_at_front(worker, at, closing, woken)
+    }
+
+    /// A worker takes the end of a query of an alternative that is out to it, where a query is left: that is ready below a new
+    /// node of the body. Nothing happens where the alternative is not the leftmost entry, or where the tree has ended or was
+    /// stopped.
+    pub fn open_query(
+        &mut self,
+        worker: u32,
+        at: AltRef,
+        body: Arc<NodeBody>,
+    ) -> Result<Answering, NoMemory>
+        requires whole { IsWhole (body_view (arc_value body)) }
+        requires out { is_some (taken_at worker (place_view at) (state_of self.old.history)) ≡ true }
+        requires opens { OpensAs self.old.nodes.rows (body_view (arc_value body)) worker (place_view at) (reading self.old.history.job) (state_of self.old.history) }
+        ensures answer { IfOk result (λ r. r ≡ answering_of (Answer worker (place_view at) false) (state_of self.old.history)) }
+        ensures noted { IfOk result (λ r. self.new.history ≡ where_legal (Answer worker (place_view at) false) self.old.history) }
+        ensures err { OnErr result (self.new.history ≡ self.old.history) }
+    {
+        handed_out_once();
+        if !self.is_going() {
+            return Ok(Answering::HasEnded);
+        }
+        self.public.open_query(worker, at, body)
     }
 
     /// A worker halts the tree with a status, by the goal of an alternative that is out to it. Nothing happens where the
