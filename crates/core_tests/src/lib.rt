@@ -1,0 +1,6 @@
+//! Tests of the tree of a job: programs that are run by hand on it, by its calls alone. They are in a crate of their own
+//! because a crate with tests is proved twice.
+#![tactic(auto)]
+
+#[cfg(test)]
+mod failing;
