@@ -1,1 +1,2 @@
+mod HandRunLemmas
 mod FailingLemmas

@@ -1,1 +1,2 @@
 pub mod FailingQueries
+pub mod HandRuns

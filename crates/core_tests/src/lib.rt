@@ -4,3 +4,5 @@
 
 #[cfg(test)]
 mod failing;
+#[cfg(test)]
+mod hand_runs;
