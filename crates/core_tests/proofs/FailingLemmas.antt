@@ -1,5 +1,5 @@
 -- The trees of jobs whose queries fail, between their events.
-use Rattle.std.proofs.Common.{◌≡◌, ℕ, zero, suc, ◌+◌, ◌==◌, Bool, true, false, List, [], ◌∷◌, Option, Some, None, refl, sym, ap, ap₂, ◌∙◌, subst}
+use Rattle.std.proofs.Common.{◌≡◌, ℕ, ◌+◌, ◌==◌, Bool, true, false, List, [], ◌∷◌, Option, Some, None, refl, sym, ap, ap₂, ◌∙◌, subst}
 use Rattle.std.proofs.lemmas.Bool.{eqb-true}
 use Rattle.std.specs.Prelude.{codes, is_some, IsSome, slice_get}
 use Rattle.au_term.specs.Term.{AtomTerm}
@@ -7,7 +7,7 @@ use Rattle.au_term.proofs.LogicLemmas.{true_false}
 use Rattle.au_model.specs.Terms.Unifier.{unifier}
 use Rattle.run_model.specs.Goals.GoalOutcomes.{outcome_of}
 use Rattle.run_model.specs.Machine.Items.{GoalItem, Continuation, resolve_continuation}
-use Rattle.run_model.specs.Machine.Entries.{Entry, PlainEntry, EndEntry}
+use Rattle.run_model.specs.Machine.Entries.{PlainEntry, EndEntry}
 use Rattle.run_model.specs.Programs.Jobs.{Query, Job}
 use Rattle.clause_compile.specs.declared.item.Item.{Item as BranchItem}
 use Rattle.clause_compile.specs.declared.item.Item.TheVariants.{Goal, CatchEnd, Collect, Remove, End}
@@ -17,7 +17,7 @@ use Rattle.tree_model.specs.Events.{Empty, Answer}
 use Rattle.tree_model.specs.FrontGates.{QueryEnds}
 use Rattle.tree_model.specs.Legality.{taken_at, gate_of, run_of, run_is_empty, is_legal}
 use Rattle.tree_model.specs.Levels.{Place, Spot, levels_of}
-use Rattle.tree_model.specs.Nodes.{QueryNode, ChoiceNode, WorldGate, TakenBy, Dormant, Node, Numbered, none, alternative, Status, Pending, Inner, Closed}
+use Rattle.tree_model.specs.Nodes.{QueryNode, ChoiceNode, WorldGate, TakenBy, Dormant, Node, Numbered, none, alternative, Pending, Inner, Closed}
 use Rattle.tree_model.specs.PrivateRuns.{private_run}
 use Rattle.tree_model.specs.SoundTrees.{one_if}
 use Rattle.tree_nodes.specs.Bodies.{Body, BodyKind, ChoiceBody, ConditionBody, CatchBody, FindallBody, QueryBody, Branching, node_kind}
@@ -25,7 +25,7 @@ use Rattle.tree_nodes.specs.Rows.{StoredNode, Rows, row_of_node, alternatives_at
 use Rattle.tree_nodes.specs.TreeTables.{NodesView, IsTableOf, IsWayTo}
 use Rattle.tree_closing.specs.Sleeping.{right_of, is_asleep_at, IsBesideSleeper}
 use Rattle.branch_reading.specs.Readings.{reading, branch_items, entry_meant, entry_bound, continuation_on, or_nothing, bound_by, segments_on, query_count, queries_on}
-use Rattle.branch_reading.specs.QueryNodes.{goals_in, MakesQueryNode, IsQueryBody, IsEndAsleep}
+use Rattle.branch_reading.specs.QueryNodes.{goals_in, IsQueryBody, IsEndAsleep}
 use Rattle.public_tree.specs.PublicTrees.{is_going}
 use Rattle.public_tree.specs.Answering.{taken_as, front_credit, ReadsAsNext}
 use Rattle.tree_core.specs.Histories.{History, state_of, with_event}
@@ -259,6 +259,10 @@ next_opens = record {
       );
 }
 
+claimed_4 : with_claim (after one_more 4) ≡ after one_more 5
+unfolding after_event
+claimed_4 = refl
+
 next_is_2 : 2 ≡ (state_of (after one_more 3)).next
 unfolding after_event
 next_is_2 = refl
@@ -290,6 +294,12 @@ pub end_claimed : (j : Job) (h : History) → StartsFailing j → h ≡ failing_
 end_claimed j h s e =
     let here : j ≡ failing_job s.0 = s.1 in
     ap with_claim (e ∙ ap (λ i. failing_history i 2) here) ∙ claimed_2 s.0 ∙ ap (λ i. failing_history i 3) (sym here)
+
+pub end_taken : (j : Job) (h : History) → h ≡ failing_history j 3 → with_event (Answer 1 (at_place 1 0) false) h ≡ failing_history j 4
+end_taken j h e = ap (with_event (Answer 1 (at_place 1 0) false)) e
+
+pub second_claimed : (j : Job) (h : History) → j ≡ failing_job one_more → h ≡ failing_history j 4 → with_claim h ≡ failing_history j 5
+second_claimed j h s e = ap with_claim (e ∙ ap (λ i. failing_history i 4) s) ∙ claimed_4 ∙ ap (λ i. failing_history i 5) (sym s)
 
 pub first_is : (j : Job) (given : QueryGoals) → StartsFailing j → given.goals ≡ goals_in 0 (AtomTerm (codes "fail") ∷ []) → given.vars ≡ 0
     → IsFirstOf j.queries (Some given)

@@ -20,11 +20,10 @@ StartsFailing job = (further : List Query) × (job ≡ failing_job further)
 abbrev pub at_place : ℕ → ℕ → Place
 at_place n i = record { node = n; index = i }
 
--- a goal fails by one inference, the end of its query wakes in a node of its own, and is taken; the next query opens below that
+-- the goal fails by one inference, the end of its query wakes in a node of its own, and is taken; the next query opens below that
 abbrev pub failing_events : List Event
 failing_events =
-    Claim 1 (at_place 0 0) ∷ Empty 1 (at_place 0 0) 1 ∷ Claim 1 (at_place 1 0) ∷ Answer 1 (at_place 1 0) false ∷
-    Claim 1 (at_place 2 0) ∷ Empty 1 (at_place 2 0) 1 ∷ Claim 1 (at_place 3 0) ∷ Answer 1 (at_place 3 0) false ∷ []
+    Claim 1 (at_place 0 0) ∷ Empty 1 (at_place 0 0) 1 ∷ Claim 1 (at_place 1 0) ∷ Answer 1 (at_place 1 0) false ∷ Claim 1 (at_place 2 0) ∷ []
 
 -- after so many of them
 abbrev pub failing_history : Job → ℕ → History

@@ -1,5 +1,5 @@
 -- What each step of a run by hand asks of the tree at the time.
-use Rattle.std.specs.Prelude.{◌≡◌, ℕ, true, false, is_some, IsSome, List, Option, Some, None}
+use Rattle.std.specs.Prelude.{◌≡◌, true, false, is_some, IsSome, List, Option, Some, None}
 use Rattle.au_term.specs.Term.{Term}
 use Rattle.tree_model.specs.Credits.{credit_of}
 use Rattle.tree_model.specs.Events.{Claim, Answer}

@@ -59,8 +59,9 @@ fn run_first<J: JobBrand>(rt: &impl Abort, alloc: Global) -> Result<Tree<J>, Fai
 }
 
 /// `?- fail.`
-fn run_one<J: JobBrand>(rt: &impl Abort, alloc: Global) -> Result<(), Fail>
+fn run_whole<J: JobBrand>(rt: &impl Abort, alloc: Global) -> Result<Tree<J>, Fail>
     requires { J.job ≡ failing_job [] }
+    ensures { IfOk result (λ t. t.history ≡ failing_history J.job 4) }
 {
     let mut tree = run_first::<J>(rt, alloc)?;
     let at = AltRef {
@@ -69,6 +70,13 @@ fn run_one<J: JobBrand>(rt: &impl Abort, alloc: Global) -> Result<(), Fail>
     };
     let rest = end(&mut tree, at)?;
     expect(rt, rest, (place(0, 1), Beside::Same, Answering::Taken));
+    Ok(tree)
+}
+
+fn run_one<J: JobBrand>(rt: &impl Abort, alloc: Global) -> Result<(), Fail>
+    requires { J.job ≡ failing_job [] }
+{
+    let tree = run_whole::<J>(rt, alloc)?;
     expect(rt, ended(&tree), Some(RunEnding::Finished));
     expect(rt, counts(&tree), (0, 2));
     Ok(())
@@ -79,9 +87,10 @@ fn one_query(rt: HostRuntime) -> Result<(), Fail> {
     run_one::<Brand>(&rt, rt.alloc())
 }
 
-/// `?- fail. ?- fail.`, until the second query has opened.
-fn open_second<J: JobBrand>(rt: &impl Abort, alloc: Global) -> Result<(), Fail>
+/// `?- fail. ?- fail.`, until the second query has opened and its goal is out.
+fn run_second<J: JobBrand>(rt: &impl Abort, alloc: Global) -> Result<Tree<J>, Fail>
     requires { J.job ≡ failing_job (failing_query ∷ []) }
+    ensures { IfOk result (λ t. t.history ≡ failing_history J.job 5) }
 {
     let mut tree = run_first::<J>(rt, alloc)?;
     let at = AltRef {
@@ -90,9 +99,16 @@ fn open_second<J: JobBrand>(rt: &impl Abort, alloc: Global) -> Result<(), Fail>
     };
     let answer = open_next(alloc, &mut tree, at, "fail", 2)?;
     expect(rt, answer, Answering::Taken);
+    expect(rt, claim(&mut tree)?, Some(place(2, 0)));
+    Ok(tree)
+}
+
+fn open_second<J: JobBrand>(rt: &impl Abort, alloc: Global) -> Result<(), Fail>
+    requires { J.job ≡ failing_job (failing_query ∷ []) }
+{
+    let tree = run_second::<J>(rt, alloc)?;
     expect(rt, ended(&tree), None);
     expect(rt, counts(&tree), (0, 2));
-    expect(rt, claim(&mut tree)?, Some(place(2, 0)));
     Ok(())
 }
 
