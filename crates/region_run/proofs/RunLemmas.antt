@@ -110,7 +110,7 @@ outcome_there r r1 (Replies (HaltNumber k)) g p c = absurd c
 outcome_there r r1 (Controls form) g p c = c.1
 outcome_there r r1 (AskWorld t) g p c = absurd (asks_none (At p) c.0 tt)
 
-item_there : (r r1 : RegionView) (i : FrameItem) (g : GoalPlace) (p : Position) → is_goal_item i ≡ true → InfersItem r r1 i g (At p) → IsPositionIn r1 p
+pub item_there : (r r1 : RegionView) (i : FrameItem) (g : GoalPlace) (p : Position) → is_goal_item i ≡ true → InfersItem r r1 i g (At p) → IsPositionIn r1 p
 item_there r r1 (item.Goal value) g p k x = outcome_there r r1 _ g p (x _ refl)
 item_there r r1 (item.Call value) g p k x = outcome_there r r1 _ g p (x _ refl)
 item_there r r1 item.Cut g p k x = outcome_there r r1 _ g p (x _ refl)
@@ -125,7 +125,7 @@ asks_next r r1 i g goal there is x =
     let asked = asked_of r r1 (outcome_of r.text.clauses goal r.store.now.next) g (x goal is) in
     (subst (λ (y : RegionView). AsksWorldNext y i g) (sym asked.2) (record { there = there; goal = goal; is = is; asked = asked.0; asks = asked.1 }), asked.2)
 
-item_asks : (r r1 : RegionView) (i : FrameItem) (g : GoalPlace) → IsGoalThere r i g → is_goal_item i ≡ true → InfersItem r r1 i g AsksWorld → AsksWorldNext r1 i g × (r1 ≡ r)
+pub item_asks : (r r1 : RegionView) (i : FrameItem) (g : GoalPlace) → IsGoalThere r i g → is_goal_item i ≡ true → InfersItem r r1 i g AsksWorld → AsksWorldNext r1 i g × (r1 ≡ r)
 item_asks r r1 (item.Goal value) g there k x = asks_next r r1 (item.Goal value) g _ there refl x
 item_asks r r1 (item.Call value) g there k x = asks_next r r1 (item.Call value) g _ there refl x
 item_asks r r1 item.Cut g there k x = asks_next r r1 item.Cut g _ there refl x

@@ -1,13 +1,13 @@
 -- Goals that cut.
-use Rattle.std.proofs.Common.{◌≡◌, ℕ, Bool, true, false, cond, ◌==◌, List, Option, Some, None, refl, sym, ap₂, ◌∙◌}
-use Rattle.std.specs.Prelude.{codes, nat_lt}
+use Rattle.std.proofs.Common.{◌≡◌, ℕ, Bool, true, false, cond, ◌==◌, List, Option, Some, None, refl, sym, ap, ap₂, ◌∙◌}
+use Rattle.std.specs.Prelude.{codes, nat_lt, IsTrue, ◌↔◌}
 use Rattle.std.specs.Cmp.Lexicographic.{same_text}
 use Rattle.std.proofs.lemmas.Bool.{eqb-true}
 use Rattle.au_term.proofs.LogicLemmas.{both}
 use Rattle.au_term.specs.Term.{Term, VarTerm, IntTerm, AtomTerm, Compound, Terms, end, more, argument_count, term_at, drop_terms}
 use Rattle.au_model.specs.Terms.Each.{Each}
 use Rattle.au_model.specs.Terms.ErrorTerms.{representation_error}
-use Rattle.au_model.specs.Terms.Forms.{name_of, same_name}
+use Rattle.au_model.specs.Terms.Forms.{is_callable, name_of, same_name}
 use Rattle.au_model.proofs.EachLemmas.{IfFound, found_row}
 use Rattle.run_model.specs.Programs.Bodies.{called_goals, goals_of}
 use Rattle.run_model.specs.Programs.Clauses.{Clause, is_defined}
@@ -16,7 +16,11 @@ use Rattle.run_model.specs.Goals.Control.{Construct, is_named, construct_of, con
 use Rattle.run_model.specs.Goals.Builtins.{builtins}
 use Rattle.run_model.specs.Goals.Worlds.{is_world_goal}
 use Rattle.run_model.specs.Goals.GoalOutcomes.{by_procedure, by_world_goal, by_builtin, by_construct, named_outcome, outcome_of}
-use Rattle.task_region.specs.CutGoals.{IsCutGoal, CutsAreNamed, NamedCutsCut}
+use Rattle.binding_array.specs.declared.cell.BindingCell.{BindingCell}
+use Rattle.cell_store.specs.StoreView.{StoreView}
+use Rattle.region_split.specs.declared.frame.FrameItem.{FrameItem}
+use Rattle.region_split.specs.declared.frame.FrameItem.TheVariants as item
+use Rattle.task_region.specs.CutGoals.{IsCutGoal, CutsAreNamed, NamedCutsCut, IsCutCall, IsCutItem}
 
 -- the row of a cut, if its outcome is one
 abbrev IsCutRow : Construct → Type 0
@@ -109,3 +113,25 @@ named_cuts_cut clauses (VarTerm n) next c h = absurd cc
 named_cuts_cut clauses (IntTerm z) next c h = absurd cc
 named_cuts_cut clauses (AtomTerm a) next c h = cut_row clauses (AtomTerm a) next h
 named_cuts_cut clauses (Compound f ts) next c h = cut_row clauses (Compound f ts) next h
+
+-- a goal is told by its name and the number of its arguments
+pub no_call_cuts : (goal : Term) → is_callable goal ≡ false → IsTrue false ↔ IsCutCall goal
+no_call_cuts goal none = ((λ e. absurd cc), (λ h. absurd (let e : false ≡ true = sym none ∙ h.0 in cc)))
+
+pub arguments_no_cut : (goal : Term) (count : ℕ) → argument_count goal ≡ count → (count ≡ 0 → ⊥) → IsTrue false ↔ IsCutCall goal
+arguments_no_cut goal count many some = ((λ e. absurd cc), (λ h. absurd (some (sym many ∙ h.1.1))))
+
+pub cut_told : (goal : Term) (name : List ℕ) (count : ℕ) (b : Bool) → is_callable goal ≡ true → name_of goal ≡ name → argument_count goal ≡ count → count ≡ 0
+    → b ≡ same_name name (codes "!") → IsTrue b ↔ IsCutCall goal
+cut_told goal name count b callable named many none e =
+    ((λ is. (callable, (named ∙ same_text name (codes "!") (sym (sym e ∙ is)), many ∙ none))), (λ h. e ∙ ap (λ n. same_name n (codes "!")) (sym named ∙ h.1.0)))
+
+pub others_no_cut : (st : StoreView) (i : FrameItem) → ((value : BindingCell) → i ≡ item.Goal value → ⊥) → (i ≡ item.Cut → ⊥) → IsTrue false ↔ IsCutItem st i
+others_no_cut st (item.Goal value) g c = absurd (g value refl)
+others_no_cut st (item.Call value) g c = ((λ e. absurd cc), (λ h. absurd (let e = h.1.1 in cc)))
+others_no_cut st item.Cut g c = absurd (c refl)
+others_no_cut st item.True g c = ((λ e. absurd cc), (λ h. absurd (let e = h.1.0 in cc)))
+others_no_cut st item.Fail g c = ((λ e. absurd cc), (λ h. absurd (let e = h.1.0 in cc)))
+others_no_cut st item.CatchEnd g c = ((λ e. absurd cc), (λ h. absurd h))
+others_no_cut st (item.Collect value) g c = ((λ e. absurd cc), (λ h. absurd h))
+others_no_cut st (item.Removal number) g c = ((λ e. absurd cc), (λ h. absurd h))

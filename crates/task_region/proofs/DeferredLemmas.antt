@@ -1,5 +1,5 @@
 -- What is deferred is taken up, or stops the run.
-use Rattle.std.proofs.Common.{◌≡◌, ℕ, suc, ◌+◌, List, [], ◌∷◌, length, map, drop, Some, None, refl, sym, ap, ap₂, ◌∙◌, subst, arith}
+use Rattle.std.proofs.Common.{◌≡◌, ℕ, zero, suc, ◌+◌, ◌-◌, ◌<◌, ◌≤◌, List, [], ◌∷◌, length, map, drop, Some, None, refl, sym, ap, ap₂, ◌∙◌, subst, arith}
 use Rattle.std.specs.List.{slice_get}
 use Rattle.au_term.specs.Term.{Term}
 use Rattle.au_model.specs.Terms.Named.{NamedTerm}
@@ -9,7 +9,9 @@ use Rattle.run_model.specs.Machine.Entries.{Entry, PlainEntry}
 use Rattle.tree_model.specs.Nodes.{WorldGate}
 use Rattle.region_split.specs.ChoicePoints.{Standing}
 use Rattle.region_split.specs.Regions.{RegionView, entries_of, continuation_here}
+use Rattle.region_split.specs.declared.frame.FrameItem.{FrameItem}
 use Rattle.region_split.specs.declared.frame.Position.{Position}
+use Rattle.region_control.specs.declared.control.GoalPlace.{GoalPlace}
 use Rattle.region_floor.specs.Deferred.{deferred_now, items_now}
 use Rattle.region_floor.specs.BareFloors.{AreOwn}
 use Rattle.region_floor.specs.GateLaws.{deferred_entries}
@@ -17,9 +19,10 @@ use Rattle.region_floor.specs.RegionRuns.{RegionRun, StandsAfter, StandsAtGate, 
 use Rattle.region_floor.proofs.JoinedLemmas.{bound_now}
 use Rattle.region_floor.proofs.RegionRunLemmas.{goal_loaded, mark_skipped, answer_stops, removal_stops, result_comes}
 use Rattle.region_floor.proofs.RunLemmas.{tops_are_own}
-use Rattle.task_region.specs.DeferredItems.{IsDeferredOver}
-use Rattle.task_region.specs.GoalLoads.{nothing_here, LeavesItems, rest_items, loaded_items, ComesToDeferred}
-use Rattle.task_region.specs.TaskViews.{carried, position_stack, deferred_stack}
+use Rattle.task_region.specs.DeferredItems.{IsDeferredOver, IsMarkAt, SkipsMarks}
+use Rattle.task_region.specs.GoalLoads.{nothing_here, LeavesItems, LoadsGoal, rest_items, ComesToDeferred, TakesUpDeferred}
+use Rattle.task_region.specs.declared.loading.AfterDeferred.TheVariants.{Goal, Answer, Result, Removal}
+use Rattle.task_region.specs.TaskViews.{carried, position_stack, deferred_stack, goal_stack}
 use Rattle.task_region.proofs.FoundLemmas.{item_holds, items_from, nothing_from}
 
 module _ (r : RegionRun) (k : ℕ) (named : List NamedTerm) (old : RegionView) (number : ℕ) (after : Position) (w : ComesToDeferred r k named old number after) where
@@ -61,9 +64,9 @@ module _ (r : RegionRun) (k : ℕ) (named : List NamedTerm) (old : RegionView) (
   abbrev with_goal : Term → ℕ → ℕ → Continuation ℕ → List Entry
   with_goal goal h n g = PlainEntry (before (GoalItem goal h ∷ RemovalItem n ∷ []) g) ∷ es
 
-  pub goal_taken : (new : RegionView) (p : Position) (term : Term) (cut : ℕ) → slice_get r.deferred.items number ≡ Some (GoalItem term cut) → LeavesItems old new (loaded_items old term cut (number + 1)) p
-      → StandsAfter r k (position_stack named r.deferred.items new p)
-  goal_taken new p term cut e l =
+  goal_taken : (new : RegionView) (item : FrameItem) (g : GoalPlace) (term : Term) (cut : ℕ) → slice_get r.deferred.items number ≡ Some (GoalItem term cut) → LoadsGoal old new term cut (number + 1) item g
+      → StandsAfter r k (goal_stack named r.deferred.items new item g)
+  goal_taken new item g term cut e l =
       let goal = resolve old.store.now.bound term in
       let one : number + 1 ≡ suc number = omega arith in
       let height = w.over.below cut (scoped (GoalItem term cut) e).1 in
@@ -72,20 +75,85 @@ module _ (r : RegionRun) (k : ℕ) (named : List NamedTerm) (old : RegionView) (
       (sym (left ∙ (ap₂ (λ h n. with_goal goal h n (nothing_here all old)) height one ∙ ap (with_goal goal cut (suc number)) f_is)))
       (goal_loaded r k number cut goal f es _ (takes_item (GoalItem term cut) e))
 
-  pub mark_taken : (new : RegionView) (p : Position) (h : ℕ) → slice_get r.deferred.items number ≡ Some (CatchMark h) → LeavesItems old new (rest_items (number + 1)) p
-      → StandsAfter r k (position_stack named r.deferred.items new p)
-  mark_taken new p h e l =
-      let one : number + 1 ≡ suc number = omega arith in
-      let left = ap₂ (λ (x : Entry) xs. x ∷ xs) (l.entry all) (ap (λ (st : Standing). st.entries) (l.stands all)) in
-      subst (StandsAfter r k)
-      (sym (left ∙ ap₂ (λ n g. deferred_entries n g es) one f_is))
-      (mark_skipped r k number h f es _ (takes_item (CatchMark h) e))
+  mark_passed : (h : ℕ) → slice_get r.deferred.items number ≡ Some (CatchMark h) → ComesToDeferred r k named old (suc number) after
+  mark_passed h e = record { named_are = w.named_are; over = w.over; scoped = w.scoped; stands = mark_skipped r k number h f es _ (takes_item (CatchMark h) e) }
 
-  pub answer_is : slice_get r.deferred.items number ≡ None → StandsAtGate r k (deferred_stack named r.deferred.items old number after) WorldGate
+  -- what is deferred from there on is left at a position of its own
+  pub rest_left : (new : RegionView) (p : Position) → LeavesItems old new (rest_items number) p → position_stack named r.deferred.items new p ≡ deferred_stack named r.deferred.items old number after
+  rest_left new p l =
+      ap₂ (λ (x : Entry) xs. x ∷ xs) (l.entry all) (ap (λ (st : Standing). st.entries) (l.stands all)) ∙ ap (λ g. deferred_entries number g es) f_is
+
+  answer_is : slice_get r.deferred.items number ≡ None → StandsAtGate r k (deferred_stack named r.deferred.items old number after) WorldGate
   answer_is e = answer_stops r k number f es (takes [] (nothing_from (resolve_item old.store.now.bound) r.deferred.items number e))
 
-  pub removal_is : (clause : ℕ) → slice_get r.deferred.items number ≡ Some (RemovalItem clause) → StandsAtGate r k (deferred_stack named r.deferred.items old number after) WorldGate
+  removal_is : (clause : ℕ) → slice_get r.deferred.items number ≡ Some (RemovalItem clause) → StandsAtGate r k (deferred_stack named r.deferred.items old number after) WorldGate
   removal_is clause e = removal_stops r k number clause f es _ (takes_item (RemovalItem clause) e)
 
-  pub result_is : (result : Term) (h : ℕ) → slice_get r.deferred.items number ≡ Some (CollectMark result h) → ComesToResult r k (deferred_stack named r.deferred.items old number after)
+  result_is : (result : Term) (h : ℕ) → slice_get r.deferred.items number ≡ Some (CollectMark result h) → ComesToResult r k (deferred_stack named r.deferred.items old number after)
   result_is result h e = result_comes r k number h (resolve old.store.now.bound result) f es _ (takes_item (CollectMark result h) e) (scoped (CollectMark result h) e).1
+
+module _ (r : RegionRun) (k : ℕ) (named : List NamedTerm) (old : RegionView) (after : Position) where
+  passed_by : (many start reached : ℕ) → reached ≡ start + many → ((n : ℕ) → start ≤ n → n < reached → IsMarkAt r.deferred.items n)
+      → ComesToDeferred r k named old start after → ComesToDeferred r k named old reached after
+  passed_by zero start reached e marks w = subst (λ n. ComesToDeferred r k named old n after) (let s : start ≡ reached = omega (arith, e) in s) w
+  passed_by (suc many) start reached e marks w =
+      let m = marks start (omega arith) (omega (arith, e)) in
+      passed_by many (suc start) reached (omega (arith, e)) (λ n ge lt. marks n (omega (arith, ge)) lt) (mark_passed r k named old start after w m.0 m.1)
+
+  -- the ends of what catches guard are skipped
+  marks_passed : (start reached : ℕ) → SkipsMarks r.deferred.items start reached → ComesToDeferred r k named old start after → ComesToDeferred r k named old reached after
+  marks_passed start reached skips w =
+      passed_by (reached - start) start reached (let le = skips.from in omega (arith, le)) skips.marks w
+
+-- what is deferred from a number on is taken up past the ends of catches
+module _ (old : RegionView) (items : List (Item ℕ)) (start reached : ℕ) (skips : SkipsMarks items start reached) where
+  come : (r : RegionRun) (k : ℕ) (named : List NamedTerm) (after : Position) → r.deferred.items ≡ items → ComesToDeferred r k named old start after → ComesToDeferred r k named old reached after
+  come r k named after e w = marks_passed r k named old after start reached (subst (λ is. SkipsMarks is start reached) (sym e) skips) w
+
+  pub takes_answer : slice_get items reached ≡ None → TakesUpDeferred old old items start (Answer reached)
+  takes_answer none = record {
+    taken = λ r k named after e w.
+        let there = come r k named after e w in
+        (there, answer_is r k named old reached after there (subst (λ is. slice_get is reached ≡ None) (sym e) none));
+    there = (none, refl);
+    stands = λ named. refl;
+    choices = refl;
+    text = refl;
+    next = refl;
+  }
+
+  pub takes_removal : (clause : ℕ) → slice_get items reached ≡ Some (RemovalItem clause) → TakesUpDeferred old old items start (Removal reached clause)
+  takes_removal clause is = record {
+    taken = λ r k named after e w.
+        let there = come r k named after e w in
+        (there, removal_is r k named old reached after there clause (subst (λ is. slice_get is reached ≡ Some (RemovalItem clause)) (sym e) is));
+    there = (is, refl);
+    stands = λ named. refl;
+    choices = refl;
+    text = refl;
+    next = refl;
+  }
+
+  pub takes_result : (result : Term) (h : ℕ) → slice_get items reached ≡ Some (CollectMark result h) → TakesUpDeferred old old items start (Result reached)
+  takes_result result h is = record {
+    taken = λ r k named after e w.
+        let there = come r k named after e w in
+        (there, result_is r k named old reached after there result h (subst (λ is. slice_get is reached ≡ Some (CollectMark result h)) (sym e) is));
+    there = ((result, h, is), refl);
+    stands = λ named. refl;
+    choices = refl;
+    text = refl;
+    next = refl;
+  }
+
+  pub takes_goal : (term : Term) (cut : ℕ) (new : RegionView) (item : FrameItem) (g : GoalPlace) → slice_get items reached ≡ Some (GoalItem term cut)
+      → LoadsGoal old new term cut (reached + 1) item g → TakesUpDeferred old new items start (Goal item g)
+  takes_goal term cut new item g is l = record {
+    taken = λ r k named after e w.
+        goal_taken r k named old reached after (come r k named after e w) new item g term cut (subst (λ is. slice_get is reached ≡ Some (GoalItem term cut)) (sym e) is) l;
+    there = l.there;
+    stands = l.stands;
+    choices = l.choices;
+    text = l.text;
+    next = l.next;
+  }

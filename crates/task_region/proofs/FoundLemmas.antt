@@ -1,12 +1,13 @@
 -- Items by their numbers.
-use Rattle.std.proofs.Common.{◌≡◌, ℕ, zero, suc, ◌<◌, ◌≤◌, List, [], ◌∷◌, length, map, drop, get_or, Some, None, refl, ap, ◌∙◌, subst, arith}
+use Rattle.std.proofs.Common.{◌≡◌, ◌⊎◌, inl, inr, ℕ, zero, suc, ◌+◌, ◌<◌, ◌≤◌, List, [], ◌∷◌, length, map, drop, get_or, Some, None, refl, ap, ◌∙◌, subst, arith}
 use Rattle.std.specs.List.{slice_get}
 use Rattle.std.specs.Option.{option_map}
 use Rattle.std.proofs.lemmas.List.{length-map}
+use Rattle.std.proofs.lemmas.Bool.{cases_lt}
 use Rattle.std.proofs.lemmas.Option.{slice_get_past, slice_get_read, slice_get-map}
 use Rattle.au_model.specs.Terms.Each.{Each}
 use Rattle.run_model.specs.Machine.Items.{Item}
-use Rattle.task_region.specs.DeferredItems.{item_of}
+use Rattle.task_region.specs.DeferredItems.{item_of, IsMarkAt}
 use Rattle.task_region.specs.declared.deferred.DeferredItem.{DeferredItem}
 
 pub item_found : (xs : List DeferredItem) (n : ℕ) (x y : DeferredItem) → n < length xs → x ≡ get_or xs n x → x ≡ y → slice_get (map item_of xs) n ≡ Some (item_of y)
@@ -30,3 +31,12 @@ nothing_from f [] zero e = refl
 nothing_from f [] (suc n) e = refl
 nothing_from f (x ∷ items) zero e = absurd cc
 nothing_from f (x ∷ items) (suc n) e = nothing_from f items n e
+
+-- the ends of what catches guard, up to one more
+pub marks_further : (items : List (Item ℕ)) (start at : ℕ) → start ≤ at → ((n : ℕ) → start ≤ n → n < at → IsMarkAt items n) → IsMarkAt items at
+    → (start ≤ at + 1) × ((n : ℕ) → start ≤ n → n < at + 1 → IsMarkAt items n)
+marks_further items start at le marks mark = (omega (arith, le), (λ n ge lt. by_place n ge lt (cases_lt n at)))
+  where
+    by_place : (n : ℕ) → start ≤ n → n < at + 1 → (n < at) ⊎ (at ≤ n) → IsMarkAt items n
+    by_place n ge lt (inl below) = marks n ge below
+    by_place n ge lt (inr above) = subst (IsMarkAt items) (let e : at ≡ n = omega (arith, lt, above) in e) mark

@@ -7,3 +7,7 @@ mod ChoiceEntryLemmas
 mod EngineLemmas
 mod EndLemmas
 mod CutGoalLemmas
+mod StandingRunLemmas
+mod AheadLemmas
+mod RoundLemmas
+mod RunningLemmas

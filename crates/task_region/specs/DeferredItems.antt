@@ -1,5 +1,5 @@
 -- The items that a task's alternative had when it was handed out.
-use Rattle.std.specs.Prelude.{ℕ, ◌≤◌, ◌<◌}
+use Rattle.std.specs.Prelude.{◌≡◌, ℕ, ◌≤◌, ◌<◌, List, Some, slice_get}
 use Rattle.au_term.specs.Term.{var_bound}
 use Rattle.run_model.specs.Machine.Items.{Item, GoalItem, CatchMark, CollectMark, RemovalItem}
 use Rattle.task_region.specs.declared.deferred.DeferredItem.{DeferredItem}
@@ -18,3 +18,13 @@ IsDeferredOver variables floor (GoalItem t h) = (var_bound t ≤ variables) × (
 IsDeferredOver variables floor (CatchMark h) = h < floor
 IsDeferredOver variables floor (CollectMark t h) = (var_bound t ≤ variables) × (h < floor)
 IsDeferredOver variables floor (RemovalItem number) = Unit {0}
+
+-- the end of what a catch guards has this number
+abbrev pub IsMarkAt : List (Item ℕ) → ℕ → Type 0
+IsMarkAt items number = (h : ℕ) × (slice_get items number ≡ Some (CatchMark h))
+
+-- from a number on such ends come, up to one under which there is none
+pub record SkipsMarks (items : List (Item ℕ)) (start reached : ℕ) : Type 0 where
+  pub from : start ≤ reached
+  pub marks : (number : ℕ) → start ≤ number → number < reached → IsMarkAt items number
+  pub last : IsMarkAt items reached → ⊥

@@ -8,14 +8,17 @@ use Rattle.run_model.specs.Machine.Items.{Item, GoalItem, CollectMark, RemovalIt
 use Rattle.run_model.specs.Machine.Entries.{PlainEntry}
 use Rattle.tree_model.specs.Nodes.{WorldGate}
 use Rattle.region_split.specs.ChoicePoints.{height_of_cut}
-use Rattle.region_split.specs.Regions.{RegionView, standing, heights_of, position_entry, IsPositionIn}
+use Rattle.region_split.specs.Regions.{RegionView, standing, entries_of, heights_of, position_entry, IsPositionIn}
+use Rattle.region_split.specs.declared.frame.FrameItem.{FrameItem}
 use Rattle.region_split.specs.declared.frame.Position.{Position}
+use Rattle.region_control.specs.Ahead.{IsGoalThere, goal_entry}
+use Rattle.region_control.specs.declared.control.GoalPlace.{GoalPlace}
 use Rattle.region_floor.specs.RegionRuns.{RegionRun, StandsAfter, StandsAtGate, ComesToResult}
 use Rattle.task_region.specs.DeferredItems.{IsDeferredOver}
 use Rattle.task_region.specs.BareRegions.{IsOverFloor}
-use Rattle.task_region.specs.TaskViews.{carried, position_stack, deferred_stack}
+use Rattle.task_region.specs.TaskViews.{carried, deferred_stack, goal_stack}
 use Rattle.task_region.specs.declared.loading.AfterDeferred.{AfterDeferred}
-use Rattle.task_region.specs.declared.loading.AfterDeferred.TheVariants.{GoesOn, Answer, Result, Removal}
+use Rattle.task_region.specs.declared.loading.AfterDeferred.TheVariants.{Goal, Answer, Result, Removal}
 
 -- nothing left to do now, but with these named terms
 abbrev pub nothing_here : List NamedTerm → RegionView → Continuation ℕ
@@ -37,6 +40,22 @@ rest_items number heights = RemovalItem number ∷ []
 abbrev pub loaded_items : RegionView → Term → ℕ → ℕ → List ℕ → List (Item ℕ)
 loaded_items r goal cut number heights = GoalItem (resolve r.store.now.bound goal) (height_of_cut heights cut) ∷ RemovalItem number ∷ []
 
+-- a goal was copied in, and stands before what is deferred from a number on
+pub record LoadsGoal (old new : RegionView) (goal : Term) (cut number : ℕ) (item : FrameItem) (g : GoalPlace) : Type 0 where
+  pub there : IsGoalThere new item g
+  pub entry : (named : List NamedTerm) → goal_entry named new item g ≡ PlainEntry (before (loaded_items old goal cut number (heights_of named old)) (nothing_here named old))
+  pub stands : (named : List NamedTerm) → standing named new ≡ standing named old
+  pub choices : new.choices ≡ old.choices
+  pub text : new.text ≡ old.text
+  pub next : new.store.now.next ≡ old.store.now.next
+
+-- a goal is left where it stood
+pub record LeavesGoal (old new : RegionView) (item : FrameItem) (g : GoalPlace) (p : Position) : Type 0 where
+  pub position : IsPositionIn new p
+  pub entry : (named : List NamedTerm) → position_entry named new p ≡ goal_entry named old item g
+  pub entries : (named : List NamedTerm) → entries_of named new ≡ entries_of named old
+  pub text : new.text ≡ old.text
+
 -- a run has come to what it defers from a number on
 pub record ComesToDeferred (r : RegionRun) (k : ℕ) (named : List NamedTerm) (here : RegionView) (number : ℕ) (after : Position) : Type 0 where
   pub named_are : r.deferred.named ≡ length named
@@ -44,26 +63,26 @@ pub record ComesToDeferred (r : RegionRun) (k : ℕ) (named : List NamedTerm) (h
   pub scoped : Each (IsDeferredOver here.store.now.next (length r.levels)) r.deferred.items
   pub stands : StandsAfter r k (deferred_stack named r.deferred.items here number after)
 
--- a goal or the end of what a catch guards was taken up, and the run goes on where it was; or the run stops, since nothing is deferred from
--- there on, or at a result for a findall of the branch, or at a removal
-abbrev pub DeferredTaken : RegionRun → ℕ → List NamedTerm → RegionView → RegionView → ℕ → Position → AfterDeferred → Type 0
-DeferredTaken r k named old new number after (GoesOn p) = StandsAfter r k (position_stack named r.deferred.items new p)
-DeferredTaken r k named old new number after Answer = StandsAtGate r k (deferred_stack named r.deferred.items old number after) WorldGate
-DeferredTaken r k named old new number after Result = ComesToResult r k (deferred_stack named r.deferred.items old number after)
-DeferredTaken r k named old new number after (Removal clause) = StandsAtGate r k (deferred_stack named r.deferred.items old number after) WorldGate
+-- a goal was loaded; or the run has come to a number from which on nothing is deferred, or to a result for a findall of the branch, or
+-- to a removal
+abbrev pub DeferredTaken : RegionRun → ℕ → List NamedTerm → RegionView → RegionView → Position → AfterDeferred → Type 0
+DeferredTaken r k named old new after (Goal item g) = StandsAfter r k (goal_stack named r.deferred.items new item g)
+DeferredTaken r k named old new after (Answer number) = ComesToDeferred r k named old number after × StandsAtGate r k (deferred_stack named r.deferred.items old number after) WorldGate
+DeferredTaken r k named old new after (Result number) = ComesToDeferred r k named old number after × ComesToResult r k (deferred_stack named r.deferred.items old number after)
+DeferredTaken r k named old new after (Removal number clause) = ComesToDeferred r k named old number after × StandsAtGate r k (deferred_stack named r.deferred.items old number after) WorldGate
 
 -- where the run stops, this is the number's item, and nothing has changed
-abbrev pub IsDeferredThere : RegionView → RegionView → List (Item ℕ) → ℕ → AfterDeferred → Type 0
-IsDeferredThere old new items number (GoesOn p) = IsPositionIn new p
-IsDeferredThere old new items number Answer = (slice_get items number ≡ None) × (new ≡ old)
-IsDeferredThere old new items number Result = ((result : Term) × (h : ℕ) × (slice_get items number ≡ Some (CollectMark result h))) × (new ≡ old)
-IsDeferredThere old new items number (Removal clause) = (slice_get items number ≡ Some (RemovalItem clause)) × (new ≡ old)
+abbrev pub IsDeferredThere : RegionView → RegionView → List (Item ℕ) → AfterDeferred → Type 0
+IsDeferredThere old new items (Goal item g) = IsGoalThere new item g
+IsDeferredThere old new items (Answer number) = (slice_get items number ≡ None) × (new ≡ old)
+IsDeferredThere old new items (Result number) = ((result : Term) × (h : ℕ) × (slice_get items number ≡ Some (CollectMark result h))) × (new ≡ old)
+IsDeferredThere old new items (Removal number clause) = (slice_get items number ≡ Some (RemovalItem clause)) × (new ≡ old)
 
--- what is deferred under a number was taken up
+-- what is deferred from a number on was taken up
 pub record TakesUpDeferred (old new : RegionView) (items : List (Item ℕ)) (number : ℕ) (reached : AfterDeferred) : Type 0 where
   pub taken : (r : RegionRun) (k : ℕ) (named : List NamedTerm) (after : Position) → r.deferred.items ≡ items → ComesToDeferred r k named old number after
-      → DeferredTaken r k named old new number after reached
-  pub there : IsDeferredThere old new items number reached
+      → DeferredTaken r k named old new after reached
+  pub there : IsDeferredThere old new items reached
   pub stands : (named : List NamedTerm) → standing named new ≡ standing named old
   pub choices : new.choices ≡ old.choices
   pub text : new.text ≡ old.text

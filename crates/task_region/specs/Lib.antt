@@ -1,7 +1,10 @@
 pub mod DeferredItems
 pub mod BareRegions
 pub mod TaskViews
+pub mod TaskStandings
 pub mod TaskStarts
 pub mod GoalLoads
 pub mod EngineSteps
 pub mod CutGoals
+pub mod TaskStops
+pub mod TaskRounds

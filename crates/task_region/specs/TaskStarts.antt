@@ -1,5 +1,5 @@
 -- How the region of a task starts.
-use Rattle.std.specs.Prelude.{◌≡◌, ℕ, List, length}
+use Rattle.std.specs.Prelude.{◌≡◌, ℕ, List, length, IsSome}
 use Rattle.au_model.specs.Terms.Named.{NamedTerm}
 use Rattle.run_model.specs.Programs.Clauses.{Clause}
 use Rattle.run_model.specs.Machine.Items.{Item, Continuation}
@@ -14,6 +14,7 @@ use Rattle.task_region.specs.TaskViews.{TaskView, task_stack}
 pub record StartsTask (old : RegionView) (floor : ℕ) (items : List (Item ℕ)) (t : TaskView) : Type 0 where
   pub stands : (clauses : List Clause) (levels : List Level) (f : Continuation ℕ) → length levels ≡ floor → f.items ≡ items → f.next ≡ old.store.now.next
       → StandsAfter (run_from clauses levels old.store.now.bound f) 0 (task_stack f.named t)
+  pub going : IsSome t.next
   pub over : (named : List NamedTerm) → IsOverFloor floor named t.region
   pub floor_is : t.floor ≡ floor
   pub deferred : t.deferred ≡ items

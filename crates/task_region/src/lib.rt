@@ -3,12 +3,18 @@
 //! goal by goal where it comes next.
 #![tactic(auto)]
 
+mod ahead;
+mod cuts;
 mod deferred;
 mod floor;
 pub mod laws;
 mod loading;
+mod rounds;
+mod running;
+mod start;
 mod task;
 
 pub use deferred::DeferredItem;
 pub use loading::{AfterDeferred, take_deferred};
+pub use running::{TaskRan, TaskStop};
 pub use task::TaskRegion;

@@ -1,28 +1,29 @@
 //! What is deferred and comes next.
-ghost use Rattle.std.specs.Prelude.{◌≡◌, ◌≤◌, IfOk, length, map};
+ghost use Rattle.std.specs.Prelude.{◌≡◌, ◌≤◌, IfOk, IsTrue, ◌↔◌, length, map};
 ghost use Rattle.au_model.specs.Terms.Each.{Each};
 ghost use Rattle.au_term.specs.Term.{var_bound};
-ghost use Rattle.task_region.specs.DeferredItems.{item_of, IsDeferredOver};
-ghost use Rattle.task_region.specs.GoalLoads.{LeavesItems, rest_items, loaded_items, TakesUpDeferred};
+ghost use Rattle.task_region.specs.DeferredItems.{item_of, IsDeferredOver, SkipsMarks};
+ghost use Rattle.task_region.specs.GoalLoads.{LeavesItems, LoadsGoal, rest_items, TakesUpDeferred};
 
 use crate::deferred::DeferredItem;
 use au_term::{NoMemory, Shared};
+use region_control::GoalPlace;
 use region_split::{FrameItem, Position, Region};
 
-/// What comes of an item that is deferred.
-#[derive(Clone, Copy, Debug, PartialEq, Eq)]
+/// What comes next of what is deferred, past the ends of catches.
+#[derive(Clone, Copy, Debug)]
 pub enum AfterDeferred {
-    /// It was taken up, and the run goes on at a position.
-    GoesOn(Position),
-    /// Nothing is deferred there: all that was left to do is done.
-    Answer,
-    /// It is a result for a findall of the branch.
-    Result,
-    /// It is the removal of the clause with a number.
-    Removal(u64),
+    /// This goal, which was loaded.
+    Goal(FrameItem, GoalPlace),
+    /// Nothing is deferred from this number on: all that was left to do is done.
+    Answer(u64),
+    /// A result for a findall of the branch, which is deferred under this number.
+    Result(u64),
+    /// The removal of a clause, which is deferred under this number.
+    Removal { number: u64, clause: u64 },
 }
 
-/// Takes up what is deferred under a number, where that comes next.
+/// Takes up what is deferred from a number on, where that comes next.
 pub fn take_deferred(
     region: &mut Region,
     deferred: &[DeferredItem],
@@ -31,19 +32,41 @@ pub fn take_deferred(
     requires scoped { Each (IsDeferredOver region.old.store.now.next (length region.old.choices)) (map item_of deferred.now) }
     ensures takes { IfOk result (TakesUpDeferred region.old region.new (map item_of deferred.now) number) }
 {
+    let number = past_marks(deferred, number);
     let Some(item) = deferred.get(number as usize) else {
-        return Ok(AfterDeferred::Answer);
+        return Ok(AfterDeferred::Answer(number));
     };
-    let position = match item {
-        DeferredItem::Goal { term, cut } => load_goal(region, term, *cut, number + 1)?,
-        DeferredItem::CatchEnd(_) => leave_rest(region, number + 1)?,
+    match item {
+        DeferredItem::Goal { term, cut } => {
+            let (goal, place) = load_goal(region, term, *cut, number + 1)?;
+            Ok(AfterDeferred::Goal(goal, place))
+        }
+        DeferredItem::CatchEnd(_) => unreachable!(),
         DeferredItem::Collect {
             template: _,
             over: _,
-        } => return Ok(AfterDeferred::Result),
-        DeferredItem::Removal(clause) => return Ok(AfterDeferred::Removal(*clause)),
-    };
-    Ok(AfterDeferred::GoesOn(position))
+        } => Ok(AfterDeferred::Result(number)),
+        DeferredItem::Removal(clause) => {
+            let clause = *clause;
+            Ok(AfterDeferred::Removal { number, clause })
+        }
+    }
+}
+
+/// The first number from this one on under which no end of a catch is deferred.
+fn past_marks(deferred: &[DeferredItem], number: u64) -> u64
+    ensures { SkipsMarks (map item_of deferred.now) number result }
+{
+    let mut at = number;
+    loop {
+        let Some(item) = deferred.get(at as usize) else {
+            return at;
+        };
+        let DeferredItem::CatchEnd(_) = item else {
+            return at;
+        };
+        at += 1;
+    }
 }
 
 /// Leaves what is deferred from a number on, and nothing else.
@@ -55,19 +78,19 @@ pub(crate) fn leave_rest(region: &mut Region, number: u64) -> Result<Position, N
     region.push_item(FrameItem::Removal(number), scope, nothing)
 }
 
-/// Copies a goal in, and leaves it before what is deferred from a number on.
+/// Copies a goal in, and gives it with its place, before what is deferred from a number on.
 fn load_goal(
     region: &mut Region,
     goal: &Shared,
     cut: u32,
     number: u64,
-) -> Result<Position, NoMemory>
+) -> Result<(FrameItem, GoalPlace), NoMemory>
     requires goal { var_bound goal.now ≤ region.old.store.now.next }
     requires cut { cut ≤ length region.old.choices }
-    ensures leaves { IfOk result (LeavesItems region.old region.new (loaded_items region.old goal.now cut number)) }
+    ensures loads { IfOk result (λ l. LoadsGoal region.old region.new goal.now cut number l.0 l.1) }
 {
     let nothing = region.nothing_left();
-    let rest = region.push_item(FrameItem::Removal(number), cut, nothing)?;
+    let after = region.push_item(FrameItem::Removal(number), cut, nothing)?;
     let value = region.copy_in(goal)?;
-    region.push_item(FrameItem::Goal(value), cut, rest)
+    Ok((FrameItem::Goal(value), GoalPlace { cut, after }))
 }

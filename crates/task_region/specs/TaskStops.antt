@@ -1,0 +1,66 @@
+-- How far a task's region runs, and where it stops.
+use Rattle.std.specs.Prelude.{◌≡◌, ◌≤◌, ◌<◌, ◌+◌, ℕ, List, [], Option, Some, None, IsSome, slice_get}
+use Rattle.au_term.specs.Term.{Term}
+use Rattle.au_model.specs.Terms.Named.{NamedTerm}
+use Rattle.run_model.specs.Machine.Items.{Item, CollectMark}
+use Rattle.run_model.specs.Machine.Entries.{Entry}
+use Rattle.tree_model.specs.Floors.{node_of}
+use Rattle.tree_model.specs.Nodes.{CutGate, WorldGate}
+use Rattle.region_split.specs.declared.frame.Position.{Position}
+use Rattle.region_floor.specs.BareFloors.{TopGoal, goal_entries}
+use Rattle.region_floor.specs.RegionRuns.{RegionRun, run_after, StandsAtGate, ComesToResult, FallsAt}
+use Rattle.task_region.specs.TaskViews.{TaskView, task_stack}
+use Rattle.task_region.specs.TaskStandings.{StandsOnRun}
+use Rattle.task_region.specs.declared.running.TaskRan.{TaskRan}
+use Rattle.task_region.specs.declared.running.TaskStop.{TaskStop}
+use Rattle.task_region.specs.declared.running.TaskStop.TheVariants.{Limit, Cut, World, Collect, Ball, Empty}
+
+-- a goal is on top
+abbrev pub HasGoalOnTop : List Entry → Type 0
+HasGoalOnTop stack = (t : TopGoal) × (stack ≡ goal_entries t)
+
+-- a result is deferred under a number
+abbrev pub IsResultAt : List (Item ℕ) → ℕ → Type 0
+IsResultAt items number = (result : Term) × (h : ℕ) × (slice_get items number ≡ Some (CollectMark result h))
+
+-- a run has come to a goal; to a gate, by a cut to a node of the branch or by what looks at the world or changes it; to a result for a
+-- findall of the branch; to a ball that no own entry takes; or to its end
+abbrev pub StopsTask : RegionRun → ℕ → List NamedTerm → TaskView → TaskStop → Type 0
+StopsTask r k named t Limit = StandsOnRun r k named t × HasGoalOnTop (task_stack named t)
+StopsTask r k named t (Cut node) = StandsOnRun r k named t × (node < t.floor) × StandsAtGate r k (task_stack named t) (CutGate (node_of r.levels node))
+StopsTask r k named t World = StandsOnRun r k named t × StandsAtGate r k (task_stack named t) WorldGate
+StopsTask r k named t (Collect number) = StandsOnRun r k named t × IsResultAt t.deferred number × ComesToResult r k (task_stack named t)
+StopsTask r k named t (Ball ball) = (top : TopGoal) × (b : Term) × FallsAt r k top b (Some ball)
+StopsTask r k named t Empty = run_after r k ≡ Some []
+
+abbrev pub IsLimit : TaskStop → Type 0
+IsLimit Limit = Unit {0}
+IsLimit (Cut node) = ⊥
+IsLimit World = ⊥
+IsLimit (Collect number) = ⊥
+IsLimit (Ball ball) = ⊥
+IsLimit Empty = ⊥
+
+-- a ball or the end uses a region up; else it can go on
+abbrev pub LeavesNext : TaskStop → Option Position → Type 0
+LeavesNext Limit next = IsSome next
+LeavesNext (Cut node) next = IsSome next
+LeavesNext World next = IsSome next
+LeavesNext (Collect number) next = IsSome next
+LeavesNext (Ball ball) next = next ≡ None
+LeavesNext Empty next = next ≡ None
+
+-- what does not change while a task runs
+pub record SameTask (old new : TaskView) : Type 0 where
+  pub text : new.region.text ≡ old.region.text
+  pub floor : new.floor ≡ old.floor
+  pub variables : new.variables ≡ old.variables
+  pub deferred : new.deferred ≡ old.deferred
+
+-- a task that goes on takes at most so many inferences of its run, and all of them where it stops for no other cause
+pub record RunsTask (old new : TaskView) (limit : ℕ) (ran : TaskRan) : Type 0 where
+  pub run : (r : RegionRun) (k : ℕ) (named : List NamedTerm) → IsSome old.next → StandsOnRun r k named old → StopsTask r (k + ran.taken) named new ran.stop
+  pub within : ran.taken ≤ limit
+  pub all : IsLimit ran.stop → ran.taken ≡ limit
+  pub next : LeavesNext ran.stop new.next
+  pub same : SameTask old new

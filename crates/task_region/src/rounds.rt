@@ -1,0 +1,97 @@
+//! Rounds of a task, each of which takes one inference or stops.
+ghost use Rattle.std.specs.Prelude.{◌≡◌, IfOk, None, map};
+ghost use Rattle.au_model.specs.Terms.Each.{Each};
+ghost use Rattle.region_control.specs.Ahead.{IsGoalThere};
+ghost use Rattle.task_region.specs.DeferredItems.{item_of, IsDeferredOver};
+ghost use Rattle.task_region.specs.GoalLoads.{LeavesGoal};
+ghost use Rattle.task_region.specs.TaskStandings.{IsUnderWay};
+ghost use Rattle.task_region.specs.TaskViews.{task_at};
+ghost use Rattle.task_region.specs.TaskRounds.{TakesGoalNext, PassesRound};
+
+use crate::ahead::{TaskAhead, task_ahead};
+use crate::cuts::cuts_to_floor;
+use crate::running::TaskStop;
+use crate::start::TaskStart;
+use au_term::NoMemory;
+use goal_kinds::GoalKinds;
+use region_control::{AfterGoal, GoalPlace};
+use region_run::infer;
+use region_split::{FrameItem, Position, Region};
+use std::alloc::Global;
+
+/// What comes of a round.
+#[derive(Drop)]
+pub(crate) enum TaskRound {
+    /// One inference was taken, and the run goes on at a position, or with what the choice points have left.
+    GoesOn(Option<Position>),
+    /// The run stops, and where it would go on.
+    Stops(TaskStop, Option<Position>),
+}
+
+/// Takes one inference, if one more may be taken, or tells why the run stops.
+#[inline]
+pub(crate) fn pass_round(
+    region: &mut Region,
+    alloc: Global,
+    kinds: &GoalKinds,
+    task: &TaskStart,
+    start: Option<Position>,
+    more: bool,
+) -> Result<TaskRound, NoMemory>
+    requires way { IsUnderWay (task_at region.old task.now start) }
+    requires kinds { kinds.now ≡ region.old.text.code.names }
+    ensures { IfOk result (PassesRound (task_at region.old task.now start) (task_at region.new task.now None) more) }
+{
+    let ahead = task_ahead(region, alloc, task, start)?;
+    match ahead {
+        TaskAhead::Goal(item, place) => take_goal(region, alloc, kinds, task, (item, place), more),
+        TaskAhead::Stops(stop, next) => Ok(TaskRound::Stops(stop, next)),
+    }
+}
+
+/// Takes a goal, but for a cut to a node of the branch.
+fn take_goal(
+    region: &mut Region,
+    alloc: Global,
+    kinds: &GoalKinds,
+    task: &TaskStart,
+    goal: (FrameItem, GoalPlace),
+    more: bool,
+) -> Result<TaskRound, NoMemory>
+    requires there { IsGoalThere region.old goal.0 goal.1 }
+    requires kinds { kinds.now ≡ region.old.text.code.names }
+    requires deferred { Each (IsDeferredOver task.now.variables task.now.floor) (map item_of task.now.deferred.items) }
+    ensures { IfOk result (TakesGoalNext (task_at region.old task.now None) (task_at region.new task.now None) goal.0 goal.1 more) }
+{
+    let (item, place) = goal;
+    region.ends_are_oldest();
+    if cuts_to_floor(region.store(), item, place.cut, task.floor) {
+        let position = leave_goal(region, item, place)?;
+        return Ok(TaskRound::Stops(TaskStop::Cut(place.cut), Some(position)));
+    }
+    if !more {
+        let position = leave_goal(region, item, place)?;
+        return Ok(TaskRound::Stops(TaskStop::Limit, Some(position)));
+    }
+    let after = infer(region, alloc, kinds, item, place)?;
+    match after {
+        AfterGoal::At(position) => Ok(TaskRound::GoesOn(Some(position))),
+        AfterGoal::Failed => Ok(TaskRound::GoesOn(None)),
+        AfterGoal::Uncaught(ball) => {
+            let stop = TaskStop::Ball(Box::into_inner(ball));
+            Ok(TaskRound::Stops(stop, None))
+        }
+        AfterGoal::AsksWorld => {
+            let position = leave_goal(region, item, place)?;
+            Ok(TaskRound::Stops(TaskStop::World, Some(position)))
+        }
+    }
+}
+
+/// Leaves a goal at its place, and gives the position at which it is next.
+fn leave_goal(region: &mut Region, item: FrameItem, place: GoalPlace) -> Result<Position, NoMemory>
+    requires { IsGoalThere region.old item place }
+    ensures { IfOk result (LeavesGoal region.old region.new item place) }
+{
+    region.push_item(item, place.cut, place.after)
+}

@@ -1,0 +1,65 @@
+//! Runs of a task.
+ghost use Rattle.std.specs.Prelude.{◌≡◌, IfOk, Some};
+ghost use Rattle.task_region.specs.TaskStandings.{IsUnderWay};
+ghost use Rattle.task_region.specs.TaskViews.{task_at};
+ghost use Rattle.task_region.specs.TaskRounds.{RunsOn};
+
+use crate::rounds::{TaskRound, pass_round};
+use crate::start::TaskStart;
+use au_term::{FlatTerm, NoMemory};
+use goal_kinds::GoalKinds;
+use region_split::{Position, Region};
+use std::alloc::Global;
+
+/// Why a task stopped.
+#[derive(Drop)]
+pub enum TaskStop {
+    /// As many inferences were taken as were allowed, and a goal is next.
+    Limit,
+    /// A cut to a node of the branch is next, by the height of the node.
+    Cut(u32),
+    /// A goal is next that looks at the world or changes it, or the removal of a clause; or nothing is left to do: the query
+    /// holds.
+    World,
+    /// A result for a findall of the branch is next, which is deferred under this number.
+    Collect(u64),
+    /// A goal is next that throws this ball, its variables numbered from 0, which no catch of the task takes.
+    Ball(FlatTerm),
+    /// No solution is left.
+    Empty,
+}
+
+/// How far a task came, in inferences, and why it stopped.
+#[derive(Drop)]
+pub struct TaskRan {
+    pub taken: u64,
+    pub stop: TaskStop,
+}
+
+/// Runs on at a position for at most so many inferences, and gives the position at which the run would go on.
+pub(crate) fn run_on(
+    region: &mut Region,
+    alloc: Global,
+    kinds: &GoalKinds,
+    task: &TaskStart,
+    start: Position,
+    limit: u64,
+) -> Result<(TaskRan, Option<Position>), NoMemory>
+    requires way { IsUnderWay (task_at region.old task.now (Some start)) }
+    requires kinds { kinds.now ≡ region.old.text.code.names }
+    ensures { IfOk result (λ ran. RunsOn (task_at region.old task.now (Some start)) (task_at region.new task.now ran.1) limit ran.0) }
+{
+    let mut next = Some(start);
+    let mut taken = 0;
+    loop {
+        let more = taken < limit;
+        let round = pass_round(region, alloc, kinds, task, next, more)?;
+        match round {
+            TaskRound::GoesOn(position) => {
+                next = position;
+                taken += 1;
+            }
+            TaskRound::Stops(stop, position) => return Ok((TaskRan { taken, stop }, position)),
+        }
+    }
+}
