@@ -36,9 +36,10 @@ use Rattle.region_control.proofs.ControlLemmas.{place_in}
 use Rattle.region_split.specs.declared.frame.FrameItem.{FrameItem}
 use Rattle.run_model.specs.Programs.Bodies.{call_of}
 use Rattle.goal_kinds.specs.Kinds.{IsKindOf}
+use Rattle.goal_kinds.specs.declared.kind.GoalKind.{GoalKind}
 use Rattle.goal_kinds.specs.declared.kind.GoalKind.TheVariants as kind
 use Rattle.region_builtins.specs.QuickAnswers.{AnswersFor}
-use Rattle.region_run.specs.Inferences.{item_goal, Infers, InfersItem}
+use Rattle.region_run.specs.Inferences.{is_procedure_call, item_goal, Infers, InfersItem}
 
 -- variables and integers are called
 pub uncallable : (clauses : List Clause) (t : Term) (next : ℕ) → is_callable t ≡ false → outcome_of clauses t next ≡ call_outcome 1 t end
@@ -160,10 +161,6 @@ pub without_row : (name : List ℕ) (arity : ℕ) → is_some (construct_of cont
 without_row name arity c b w =
     ap (λ x. x || (is_some (construct_of builtins name arity) || is_world_goal name arity)) c ∙ (ap (λ o. is_some o || is_world_goal name arity) b ∙ w)
 
--- whether a procedure is defined, by the goal's form
-pub known_procedure : (r : RegionView) (goal : BindingCell) (form : GoalForm) → IsFormOf r.store goal form → (b : Bool) → b ≡ is_defined r.text.clauses (name_at (text_in r.store).names form.name) form.arguments.count → b ≡ is_defined r.text.clauses (name_of (meaning r.store goal)) (argument_count (meaning r.store goal))
-known_procedure r goal form is b e = e ∙ ap₂ (is_defined r.text.clauses) (sym is.name) (sym is.count)
-
 module _ (r : RegionView) (goal : BindingCell) (form : GoalForm) (is : IsFormOf r.store goal form) where
   abbrev named : List ℕ
   named = name_at (text_in r.store).names form.name
@@ -183,6 +180,23 @@ module _ (r : RegionView) (goal : BindingCell) (form : GoalForm) (is : IsFormOf 
       let t = meaning r.store goal in
       let here : IsKindOf (name_of t) (argument_count t) (kind.World asked) = subst (λ n. IsKindOf n (argument_count t) (kind.World asked)) (sym is.name) (subst (λ m. IsKindOf named m (kind.World asked)) (sym is.count) k) in
       asks_world r t place is.callable asked here.0 here.1 here.2
+
+  -- a goal that calls a procedure, which is one of the text or not
+  pub is_call : (b : Bool) → IsKindOf named form.arguments.count kind.Call → is_procedure_call r kind.Call form ≡ b
+      → (has_row (name_of (meaning r.store goal)) (argument_count (meaning r.store goal)) ≡ false) × (is_defined r.text.clauses (name_of (meaning r.store goal)) (argument_count (meaning r.store goal)) ≡ b)
+  is_call b k e = (ap₂ has_row is.name is.count ∙ without_row named form.arguments.count k.0 k.1 k.2, ap₂ (is_defined r.text.clauses) is.name is.count ∙ e)
+
+  pub calls_defined : (k : GoalKind) → IsKindOf named form.arguments.count k → is_procedure_call r k form ≡ true
+      → (has_row (name_of (meaning r.store goal)) (argument_count (meaning r.store goal)) ≡ false) × (is_defined r.text.clauses (name_of (meaning r.store goal)) (argument_count (meaning r.store goal)) ≡ true)
+  calls_defined (kind.Control control) k e = absurd cc
+  calls_defined (kind.Builtin builtin) k e = absurd cc
+  calls_defined (kind.World asked) k e = absurd cc
+  calls_defined kind.Call k e = is_call true k e
+
+  pub call_asks : (place : GoalPlace) → IsKindOf named form.arguments.count kind.Call → is_procedure_call r kind.Call form ≡ false → Infers r r (meaning r.store goal) place AsksWorld
+  call_asks place k e =
+      let known = is_call false k e in
+      asks_procedure r (meaning r.store goal) place is.callable known.0 known.1
 
 -- the goals that items are
 some_same : (t u : Term) → ◌≡◌ {A = Option Term} (Some t) (Some u) → t ≡ u

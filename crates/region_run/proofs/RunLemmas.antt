@@ -28,9 +28,16 @@ use Rattle.region_control.specs.declared.ahead.Ahead.TheVariants as ahead
 use Rattle.region_control.specs.declared.control.GoalPlace.{GoalPlace}
 use Rattle.region_control.specs.declared.replies.AfterGoal.{AfterGoal}
 use Rattle.region_control.specs.declared.replies.AfterGoal.TheVariants.{At, Failed, Uncaught, AsksWorld}
-use Rattle.region_run.specs.Inferences.{item_goal, InfersItem}
-use Rattle.region_run.specs.Runs.{run_on, AsksWorldNext, IsStop, Runs, IsCallAhead, compound_term, stop_entries, stop_of}
-use Rattle.region_run.proofs.InferenceLemmas.{item_infers, called_at, called_none}
+use Rattle.region_control.specs.GoalForms.{IsFormOf}
+use Rattle.region_control.specs.declared.forms.GoalForm.{GoalForm}
+use Rattle.cell_store.specs.StoreView.{meaning, text_in}
+use Rattle.clause_compile.specs.AtomNumbers.{name_at}
+use Rattle.goal_kinds.specs.Kinds.{IsKindOf}
+use Rattle.goal_kinds.specs.declared.kind.GoalKind.{GoalKind}
+use Rattle.region_run.specs.Inferences.{is_procedure_call, item_goal, Infers, InfersItem}
+use Rattle.region_run.specs.Runs.{run_on, AsksWorldNext, IsStop, Runs, stop_entries, stop_of}
+use Rattle.region_run.proofs.InferenceLemmas.{item_infers, called_at, called_none, calls_defined}
+use Rattle.region_run.specs.declared.running.Ran.{Ran}
 use Rattle.region_run.specs.declared.running.Stop.{Stop}
 use Rattle.region_run.specs.declared.running.Stop.TheVariants as stop
 
@@ -173,83 +180,99 @@ module _ (old r r1 : RegionView) (start next : Option Position) (taken : ℕ) (w
   at_ahead named st e k = w.run named st e k ∙ ap (λ es. (let x : State = record st { entries = es; inferences = st.inferences + taken } in x)) (l.entries named)
 
   -- nothing more is taken
-  pub runs_up_to : (limit : ℕ) (s : Stop) → taken ≤ limit → ((named : List NamedTerm) → stop_entries named r1 s ≡ ahead_entries named r1 a) → IsStop r1 limit (record { taken = taken; stop = s }) s → Runs old r1 start limit (record { taken = taken; stop = s })
-  runs_up_to limit s le same stops = record {
-    run = λ named st e k. at_ahead named st e k ∙ ap (λ es. (let x : State = record st { entries = es; inferences = st.inferences + taken } in x)) (sym (same named));
-    within = le;
-    stops = stops;
+  pub stops_at : (limit : ℕ) (ran : Ran) → ran.taken ≡ taken → ran.stop ≡ stop_of a → taken ≤ limit → ((i : FrameItem) (g : GoalPlace) → a ≡ ahead.Goal i g → taken ≡ limit) → Runs old r1 start limit ran
+  stops_at limit ran n s le full =
+      let stopped : Ran = record { taken = taken; stop = stop_of a } in
+      let same : ran ≡ stopped = ap₂ (λ m z. (let x : Ran = record { taken = m; stop = z } in x)) n s in
+      subst (Runs old r1 start limit) (sym same) (record {
+        run = λ named st e k. at_ahead named st e k ∙ ap (λ es. (let x : State = record st { entries = es; inferences = st.inferences + taken } in x)) (sym (stops_there named r1 a));
+        within = le;
+        stops = is_stop r1 limit taken a l.there full;
+      })
+
+-- the goal that stood first was taken
+pub record TakesFirst (r r2 : RegionView) (next : Option Position) (i : FrameItem) (g : GoalPlace) (after : AfterGoal) : Type 0 where
+  pub between : RegionView
+  pub ahead : LiesAhead r between next (ahead.Goal i g)
+  pub kept : between.text ≡ r.text
+  pub infers : InfersItem between r2 i g after
+  pub text : r2.text ≡ between.text
+
+-- one more
+module _ (old r r2 : RegionView) (start next : Option Position) (taken : ℕ) (w : IsRunning old r start next taken) (i : FrameItem) (g : GoalPlace) (after : AfterGoal) (f : TakesFirst r r2 next i g after) where
+  abbrev goal_state : List NamedTerm → State → State
+  goal_state = ahead_state old r f.between start next taken w (ahead.Goal i g) f.ahead
+
+  at_goal : (named : List NamedTerm) (st : State) → st.entries ≡ entries_at named old start ++ entries_of named old → st.halted ≡ None → run_on old.text.clauses taken (with_free_steps st) ≡ goal_state named st
+  at_goal = at_ahead old r f.between start next taken w (ahead.Goal i g) f.ahead
+
+  stepped : (named : List NamedTerm) (st : State) → IsTaken after → st.entries ≡ entries_at named old start ++ entries_of named old → st.halted ≡ None
+      → run_on old.text.clauses (taken + 1) (with_free_steps st) ≡ with_free_steps (record st { entries = after_entries named r2 after; inferences = st.inferences + (taken + 1) })
+  stepped named st t e k =
+      ap (λ m. run_on old.text.clauses m (with_free_steps st)) (let n : taken + 1 ≡ suc taken = omega arith in n)
+      ∙ (ap (λ s. with_free_steps (step old.text.clauses s)) (at_goal named st e k)
+      ∙ (ap (λ (v : TextView). with_free_steps (step v.clauses (goal_state named st))) (sym (f.kept ∙ w.text))
+      ∙ (ap with_free_steps (goal_stepped f.between r2 g after t (goal_state named st) k named i f.ahead.there.goal f.infers refl)
+      ∙ ap (λ n. with_free_steps (record st { entries = after_entries named r2 after; inferences = n })) (let z : st.inferences + taken + 1 ≡ st.inferences + (taken + 1) = omega arith in z))))
+
+  pub goes_on_at : (p : Position) → after ≡ At p → IsRunning old r2 start (Some p) (taken + 1)
+  goes_on_at p e = record {
+    run = λ named st e1 k.
+        stepped named st (subst IsTaken (sym e) tt) e1 k
+        ∙ ap (λ z. with_free_steps (record st { entries = after_entries named r2 z; inferences = st.inferences + (taken + 1) })) e;
+    there = item_there f.between r2 i g p f.ahead.there.goal (subst (InfersItem f.between r2 i g) e f.infers);
+    text = f.text ∙ (f.kept ∙ w.text);
   }
 
-  pub stops_at : (limit : ℕ) (s : Stop) → s ≡ stop_of a → taken ≤ limit → ((i : FrameItem) (g : GoalPlace) → a ≡ ahead.Goal i g → taken ≡ limit) → Runs old r1 start limit (record { taken = taken; stop = s })
-  stops_at limit s e le full =
-      runs_up_to limit s le (λ named. subst (λ z. stop_entries named r1 z ≡ ahead_entries named r1 a) (sym e) (stops_there named r1 a))
-      (subst (λ z. IsStop r1 limit (record { taken = taken; stop = z }) z) (sym e) (is_stop r1 limit taken a l.there full))
+  pub fails_on : after ≡ Failed → IsRunning old r2 start None (taken + 1)
+  fails_on e = record {
+    run = λ named st e1 k.
+        stepped named st (subst IsTaken (sym e) tt) e1 k
+        ∙ ap (λ z. with_free_steps (record st { entries = after_entries named r2 z; inferences = st.inferences + (taken + 1) })) e;
+    there = tt;
+    text = f.text ∙ (f.kept ∙ w.text);
+  }
 
-  -- one more
-  module _ (i : FrameItem) (g : GoalPlace) (is : a ≡ ahead.Goal i g) (there : IsGoalThere r1 i g) (text1 : r1.text ≡ r.text) (r2 : RegionView) (after : AfterGoal) (x : InfersItem r1 r2 i g after) where
-    stepped : (named : List NamedTerm) (st : State) → IsTaken after → st.entries ≡ entries_at named old start ++ entries_of named old → st.halted ≡ None
-        → run_on old.text.clauses (suc taken) (with_free_steps st) ≡ with_free_steps (record st { entries = after_entries named r2 after; inferences = st.inferences + suc taken })
-    stepped named st t e k =
-        ap (λ s. with_free_steps (step old.text.clauses s)) (at_ahead named st e k)
-        ∙ (ap (λ (v : TextView). with_free_steps (step v.clauses (ahead_state named st))) (sym (text1 ∙ w.text))
-        ∙ (ap with_free_steps (goal_stepped r1 r2 g after t (ahead_state named st) k named i there.goal x (ap (ahead_entries named r1) is))
-        ∙ ap (λ n. with_free_steps (record st { entries = after_entries named r2 after; inferences = n })) (let z : st.inferences + taken + 1 ≡ st.inferences + suc taken = omega arith in z)))
+  pub ends_uncaught : (limit : ℕ) (ball : Box FlatTerm Global) → taken < limit → after ≡ Uncaught ball → Runs old r2 start limit (record { taken = taken + 1; stop = stop.QueryDone (Some ball.value) })
+  ends_uncaught limit ball lt e = record {
+    run = λ named st e1 k.
+        stepped named st (subst IsTaken (sym e) tt) e1 k
+        ∙ ap (λ z. with_free_steps (record st { entries = after_entries named r2 z; inferences = st.inferences + (taken + 1) })) e;
+    within = omega (arith, lt);
+    stops = tt;
+  }
 
-    pub goes_on_at : (p : Position) → after ≡ At p → r2.text ≡ r1.text → IsRunning old r2 start (Some p) (taken + 1)
-    goes_on_at p e text2 = record {
-      run = λ named st e1 k.
-          let n : taken + 1 ≡ suc taken = omega arith in
-          ap (λ m. run_on old.text.clauses m (with_free_steps st)) n
-          ∙ (stepped named st (subst IsTaken (sym e) tt) e1 k
-          ∙ ap₂ (λ z m. with_free_steps (record st { entries = after_entries named r2 z; inferences = st.inferences + m })) e (sym n));
-      there = item_there r1 r2 i g p there.goal (subst (InfersItem r1 r2 i g) e x);
-      text = text2 ∙ (text1 ∙ w.text);
-    }
+  pub world_next : (limit : ℕ) → taken < limit → after ≡ AsksWorld → Runs old r2 start limit (record { taken = taken; stop = stop.World i g })
+  world_next limit lt e =
+      let asks = item_asks f.between r2 i g f.ahead.there f.ahead.there.goal (subst (InfersItem f.between r2 i g) e f.infers) in
+      record {
+        run = λ named st e1 k.
+            at_goal named st e1 k
+            ∙ ap (λ (z : RegionView). (let y : State = record st { entries = goal_entry named z i g ∷ entries_of named z; inferences = st.inferences + taken } in y)) (sym asks.1);
+        within = omega (arith, lt);
+        stops = asks.0;
+      }
 
-    pub fails_on : after ≡ Failed → r2.text ≡ r1.text → IsRunning old r2 start None (taken + 1)
-    fails_on e text2 = record {
-      run = λ named st e1 k.
-          let n : taken + 1 ≡ suc taken = omega arith in
-          ap (λ m. run_on old.text.clauses m (with_free_steps st)) n
-          ∙ (stepped named st (subst IsTaken (sym e) tt) e1 k
-          ∙ ap₂ (λ z m. with_free_steps (record st { entries = after_entries named r2 z; inferences = st.inferences + m })) e (sym n));
-      there = tt;
-      text = text2 ∙ (text1 ∙ w.text);
-    }
-
-    pub ends_uncaught : (limit : ℕ) (ball : Box FlatTerm Global) → taken < limit → after ≡ Uncaught ball → Runs old r2 start limit (record { taken = taken + 1; stop = stop.QueryDone (Some ball.value) })
-    ends_uncaught limit ball lt e = record {
-      run = λ named st e1 k.
-          let n : taken + 1 ≡ suc taken = omega arith in
-          ap (λ m. run_on old.text.clauses m (with_free_steps st)) n
-          ∙ (stepped named st (subst IsTaken (sym e) tt) e1 k
-          ∙ ap₂ (λ z m. with_free_steps (record st { entries = after_entries named r2 z; inferences = st.inferences + m })) e (sym n));
-      within = omega (arith, lt);
-      stops = tt;
-    }
-
-    pub world_next : (limit : ℕ) → taken < limit → after ≡ AsksWorld → Runs old r2 start limit (record { taken = taken; stop = stop.World i g })
-    world_next limit lt e =
-        let asks = item_asks r1 r2 i g there there.goal (subst (InfersItem r1 r2 i g) e x) in
-        record {
-          run = λ named st e1 k.
-              at_ahead named st e1 k
-              ∙ (ap (λ z. (let y : State = record st { entries = ahead_entries named r1 z; inferences = st.inferences + taken } in y)) is
-              ∙ ap (λ (z : RegionView). (let y : State = record st { entries = goal_entry named z i g ∷ entries_of named z; inferences = st.inferences + taken } in y)) (sym asks.1));
-          within = omega (arith, lt);
-          stops = asks.0;
-        }
+-- a compound that stood first was taken
+pub takes_compound : (r r2 : RegionView) (next : Option Position) (g : CompoundAhead) (after : AfterGoal) → LiesAhead r r next (compound_goal g) → Infers r r2 (meaning r.store (Compound g.at g.base)) g.place after → r2.text ≡ r.text
+    → TakesFirst r r2 next (item.Goal (Compound g.at g.base)) g.place after
+takes_compound r r2 next g after l x text = record {
+  between = r;
+  ahead = l;
+  kept = refl;
+  infers = item_infers r r2 (item.Goal (Compound g.at g.base)) g.place after (meaning r.store (Compound g.at g.base)) refl x;
+  text = text;
+}
 
 -- a call is one more
-pub calls_on : (old r : RegionView) (start next : Option Position) (taken : ℕ) → IsRunning old r start next taken → (g : CompoundAhead) → IsCallAhead r next g
-    → (r2 : RegionView) (reached : Option Position) → Calls r r2 (Compound g.at g.base) g.place.after reached → IsRunning old r2 start reached (taken + 1)
-calls_on old r start next taken w g is r2 (Some p) calls =
-    let i = item.Goal (Compound g.at g.base) in
-    let t = compound_term r g in
-    goes_on_at old r r start next taken w (compound_goal g) is.ahead i g.place refl is.ahead.there refl r2 (At p)
-    (item_infers r r2 i g.place (At p) t refl (called_at r t g.place is.callable is.row is.defined r2 (Compound g.at g.base) refl p calls)) p refl calls.text
-calls_on old r start next taken w g is r2 None calls =
-    let i = item.Goal (Compound g.at g.base) in
-    let t = compound_term r g in
-    fails_on old r r start next taken w (compound_goal g) is.ahead i g.place refl is.ahead.there refl r2 Failed
-    (item_infers r r2 i g.place Failed t refl (called_none r t g.place is.callable is.row is.defined r2 (Compound g.at g.base) refl calls)) refl calls.text
+module _ (old r : RegionView) (start next : Option Position) (taken : ℕ) (w : IsRunning old r start next taken) (g : CompoundAhead) (l : LiesAhead r r next (compound_goal g)) (form : GoalForm) (is : IsFormOf r.store (Compound g.at g.base) form) where
+  pub calls_on : (k : GoalKind) → IsKindOf (name_at (text_in r.store).names form.name) form.arguments.count k → is_procedure_call r k form ≡ true
+      → (r2 : RegionView) (reached : Option Position) → Calls r r2 (Compound g.at g.base) g.place.after reached → IsRunning old r2 start reached (taken + 1)
+  calls_on k known calls r2 (Some p) c =
+      let goal = Compound g.at g.base in
+      let d = calls_defined r goal form is k known calls in
+      goes_on_at old r r2 start next taken w (item.Goal goal) g.place (At p) (takes_compound r r2 next g (At p) l (called_at r (meaning r.store goal) g.place is.callable d.0 d.1 r2 goal refl p c) c.text) p refl
+  calls_on k known calls r2 None c =
+      let goal = Compound g.at g.base in
+      let d = calls_defined r goal form is k known calls in
+      fails_on old r r2 start next taken w (item.Goal goal) g.place Failed (takes_compound r r2 next g Failed l (called_none r (meaning r.store goal) g.place is.callable d.0 d.1 r2 goal refl c) c.text) refl

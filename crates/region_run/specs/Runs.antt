@@ -1,23 +1,19 @@
 -- Runs of a region in the states of the sequential machine.
-use Rattle.std.specs.Prelude.{◌≡◌, ◌≤◌, ◌+◌, ℕ, true, false, zero, suc, List, [], ◌∷◌, ◌++◌, length, Option, Some, None}
-use Rattle.au_term.specs.Term.{Term, argument_count}
-use Rattle.au_model.specs.Terms.Forms.{is_callable, name_of}
+use Rattle.std.specs.Prelude.{◌≡◌, ◌≤◌, ◌+◌, ℕ, zero, suc, List, [], ◌∷◌, ◌++◌, length, Option, Some, None}
+use Rattle.au_term.specs.Term.{Term}
 use Rattle.au_model.specs.Terms.Named.{NamedTerm}
-use Rattle.binding_array.specs.declared.cell.BindingCell.TheVariants.{Compound}
-use Rattle.cell_store.specs.StoreView.{meaning}
-use Rattle.run_model.specs.Goals.GoalOutcomes.{has_row, outcome_of}
+use Rattle.run_model.specs.Goals.GoalOutcomes.{outcome_of}
 use Rattle.run_model.specs.Goals.Outcomes.{AskWorld}
 use Rattle.run_model.specs.Machine.Entries.{Entry, EndEntry}
 use Rattle.run_model.specs.Machine.States.{State, step, with_free_steps}
-use Rattle.run_model.specs.Programs.Clauses.{Clause, is_defined}
+use Rattle.run_model.specs.Programs.Clauses.{Clause}
 use Rattle.region_split.specs.Regions.{RegionView, entries_of, position_entry, IsPositionIn}
 use Rattle.region_split.specs.ClauseTrials.{entries_at}
 use Rattle.region_split.specs.declared.frame.FrameItem.{FrameItem}
 use Rattle.region_split.specs.declared.frame.Position.{Position}
-use Rattle.region_control.specs.Ahead.{IsGoalThere, IsNothingLeft, LiesAhead, compound_goal, goal_entry, removal_entry}
+use Rattle.region_control.specs.Ahead.{IsGoalThere, IsNothingLeft, goal_entry, removal_entry}
 use Rattle.region_control.specs.declared.ahead.Ahead.{Ahead}
 use Rattle.region_control.specs.declared.ahead.Ahead.TheVariants as ahead
-use Rattle.region_control.specs.declared.ahead.CompoundAhead.{CompoundAhead}
 use Rattle.region_control.specs.declared.control.GoalPlace.{GoalPlace}
 use Rattle.region_run.specs.Inferences.{item_goal}
 use Rattle.region_run.specs.declared.running.Ran.{Ran}
@@ -70,14 +66,3 @@ stop_of (ahead.Removal number after) = Removal number after
 stop_of (ahead.Answer p) = Answer p
 stop_of ahead.QueryDone = QueryDone None
 stop_of ahead.AllDone = AllDone
-
--- what a compound that stands first stands for
-abbrev pub compound_term : RegionView → CompoundAhead → Term
-compound_term r g = meaning r.store (Compound g.at g.base)
-
--- a compound stands first that calls a procedure of the text
-pub record IsCallAhead (r : RegionView) (start : Option Position) (g : CompoundAhead) : Type 0 where
-  pub ahead : LiesAhead r r start (compound_goal g)
-  pub callable : is_callable (compound_term r g) ≡ true
-  pub row : has_row (name_of (compound_term r g)) (argument_count (compound_term r g)) ≡ false
-  pub defined : is_defined r.text.clauses (name_of (compound_term r g)) (argument_count (compound_term r g)) ≡ true

@@ -1,13 +1,14 @@
 //! Runs of a region.
 ghost use Rattle.std.specs.Prelude.{◌≡◌, IfOk, IfSome, OnOk, length};
 ghost use Rattle.region_split.specs.ClauseTrials.{IsOptionalPosition};
-ghost use Rattle.region_run.specs.Runs.{Runs, IsCallAhead, stop_of};
+ghost use Rattle.region_control.specs.Ahead.{compound_goal, LiesAhead};
+ghost use Rattle.region_run.specs.Runs.{Runs, stop_of};
 
-use crate::inference::infer;
+use crate::inference::{calls_procedure, infer, taken_by_kind};
 use crate::kinds::kind_of;
 use au_term::{FlatTerm, NoMemory};
 use binding_array::BindingCell;
-use goal_kinds::{GoalKind, GoalKinds};
+use goal_kinds::GoalKinds;
 use region_control::{
     AfterGoal, Ahead, CompoundAhead, GoalPlace, compound_ahead, compound_form, look_ahead,
 };
@@ -55,26 +56,29 @@ pub fn run(
 {
     let mut next = start;
     let mut taken = 0;
-    loop {
-        if taken < limit {
-            if let Some(call) = call_ahead(region, kinds, next)? {
-                let goal = BindingCell::Compound(call.at, call.base);
-                let numbers = compound_numbers(region.store(), call.at, call.base);
-                next = region.call_by(goal, numbers, call.place.after)?;
-                taken += 1;
-                continue;
+    while taken < limit {
+        let (item, place, after) = match compound_first(region, next)? {
+            Some(compound) => {
+                let goal = BindingCell::Compound(compound.at, compound.base);
+                let form = compound_form(region.store(), compound.at, compound.base);
+                let kind = kind_of(kinds, region.store(), form.name, form.arguments.count);
+                if calls_procedure(region, kind, form) {
+                    let numbers = compound_numbers(region.store(), compound.at, compound.base);
+                    next = region.call_by(goal, numbers, compound.place.after)?;
+                    taken += 1;
+                    continue;
+                }
+                let after = taken_by_kind(region, alloc, kind, goal, form, compound.place)?;
+                (FrameItem::Goal(goal), compound.place, after)
             }
-        }
-        let ahead = look_ahead(region, alloc, next)?;
-        let Ahead::Goal(item, place) = ahead else {
-            let stop = stop_at(ahead);
-            return Ok(Ran { taken, stop });
+            None => match look_ahead(region, alloc, next)? {
+                Ahead::Goal(item, place) => {
+                    (item, place, infer(region, alloc, kinds, item, place)?)
+                }
+                ahead => return Ok(stopped(taken, ahead)),
+            },
         };
-        if taken == limit {
-            let stop = Stop::Limit(item, place);
-            return Ok(Ran { taken, stop });
-        }
-        next = match infer(region, alloc, kinds, item, place)? {
+        next = match after {
             AfterGoal::At(position) => Some(position),
             AfterGoal::Failed => None,
             AfterGoal::Uncaught(ball) => {
@@ -91,43 +95,37 @@ pub fn run(
         };
         taken += 1;
     }
+    let ahead = look_ahead(region, alloc, next)?;
+    Ok(stopped(taken, ahead))
 }
 
-/// The compound that stands first at a position, if it calls a procedure of the text.
+/// The goal that stands first at a position, if it is a compound.
 #[inline(always)]
-fn call_ahead(
+fn compound_first(
     region: &Region,
-    kinds: &GoalKinds,
     start: Option<Position>,
 ) -> Result<Option<CompoundAhead>, NoMemory>
-    requires start { IsOptionalPosition region.now (length region.now.choices) start }
-    requires kinds { kinds.now ≡ region.now.text.code.names }
-    ensures { IfOk result (λ found. IfSome found (IsCallAhead region.now start)) }
+    requires { IsOptionalPosition region.now (length region.now.choices) start }
+    ensures { IfOk result (λ found. IfSome found (λ g. LiesAhead region.now region.now start (compound_goal g))) }
 {
     let Some(position) = start else {
         return Ok(None);
     };
     let left = region.left_at(position);
-    let Some(goal) = compound_ahead(region, position, left)? else {
-        return Ok(None);
-    };
-    let store = region.store();
-    let form = compound_form(store, goal.at, goal.base);
-    match kind_of(kinds, store, form.name, form.arguments.count) {
-        GoalKind::Call if region.is_defined(form.name, form.arguments.count) => Ok(Some(goal)),
-        _ => Ok(None),
-    }
+    compound_ahead(region, position, left)
 }
 
-/// Where a run stops that takes no more goal.
-fn stop_at(ahead: Ahead) -> Stop
-    ensures { result ≡ stop_of ahead }
+/// How far a region came that takes no more goal.
+fn stopped(taken: u64, ahead: Ahead) -> Ran
+    ensures taken { result.taken ≡ taken }
+    ensures stop { result.stop ≡ stop_of ahead }
 {
-    match ahead {
+    let stop = match ahead {
         Ahead::Goal(item, place) => Stop::Limit(item, place),
         Ahead::Removal(number, after) => Stop::Removal(number, after),
         Ahead::Answer(position) => Stop::Answer(position),
         Ahead::QueryDone => Stop::QueryDone(None),
         Ahead::AllDone => Stop::AllDone,
-    }
+    };
+    Ran { taken, stop }
 }

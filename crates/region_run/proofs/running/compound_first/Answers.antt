@@ -1,0 +1,16 @@
+use Rattle.std.proofs.Common.{Option, Some, None, sym, subst}
+use Rattle.std.specs.Prelude.{IfOk, IfSome, MatchOption}
+use Rattle.std.proofs.lemmas.Result.{IfOk-weaker}
+use Rattle.region_control.specs.Ahead.{compound_goal, LiesAhead}
+use Rattle.region_control.specs.declared.ahead.CompoundAhead.{CompoundAhead}
+use Rattle.region_run.proofs.running.compound_first.Goals as goal
+
+if_some : (o : Option CompoundAhead) (P : Type 0) (Q : CompoundAhead → Type 0) → MatchOption o P Q → IfSome o Q
+if_some (Some g) P Q k = k
+if_some None P Q k = tt
+
+pub returns : goal.returns
+returns c =
+    let r = c.args.region.now in
+    subst (λ s. IfOk c.compound_ahead.result (λ found. IfSome found (λ g. LiesAhead r r s (compound_goal g)))) (sym c.in-Some.is)
+    (IfOk-weaker c.compound_ahead.result _ _ (λ found k. if_some found _ _ k) c.compound_ahead.ensures)
