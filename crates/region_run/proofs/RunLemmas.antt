@@ -38,7 +38,6 @@ use Rattle.region_run.specs.Inferences.{is_procedure_call, item_goal, Infers, In
 use Rattle.region_run.specs.Runs.{run_on, AsksWorldNext, IsStop, Runs, stop_entries, stop_of}
 use Rattle.region_run.proofs.InferenceLemmas.{item_infers, called_at, called_none, calls_defined}
 use Rattle.region_run.specs.declared.running.Ran.{Ran}
-use Rattle.region_run.specs.declared.running.Stop.{Stop}
 use Rattle.region_run.specs.declared.running.Stop.TheVariants as stop
 
 -- the entries after a goal that went on, failed, or raised a ball that nothing caught

@@ -1,10 +1,17 @@
-use Rattle.std.proofs.Common.{ap, ◌∙◌}
+use Rattle.std.proofs.Common.{ap, sym, subst, ◌∙◌}
 use Rattle.cell_store.specs.StoreView.{with_numbers}
+use Rattle.region_split.specs.QueryEnds.{MayComeOver}
 use Rattle.region_split.specs.Regions.{RegionView}
+use Rattle.region_split.specs.declared.choice.Alternatives.TheVariants.{QueryEnd}
 use Rattle.text_load.specs.QueryView.{goal_terms}
 use Rattle.std.specs.Arc.{arc_value}
 use Rattle.stack_run.proofs.QueryLemmas.{goals_there, query_begun, terms_again}
 use Rattle.stack_run.proofs.query.open.Goals as goal
+
+pub push_choice-requires-clause-over : goal.push_choice-requires-clause-over
+push_choice-requires-clause-over c =
+    subst (λ (r : RegionView). MayComeOver r.choices QueryEnd)
+    (sym (c.in_ok-fresh.ensures.ok ∙ ap (λ (r : RegionView). record r { store = with_numbers c.in-Ok.variables r.store }) c.in_ok-region.ensures)) tt
 
 pub push_goals-requires-clause-goals : goal.push_goals-requires-clause-goals
 push_goals-requires-clause-goals c =
