@@ -23,8 +23,8 @@ pub record TaskView : Type 0 where
   pub next : Option Position
 
 -- as it is kept
-abbrev pub task_at : RegionView → TaskStart → Option Position → TaskView
-task_at r s next = record { region = r; floor = s.floor; variables = s.variables; deferred = map item_of s.deferred.items; next = next }
+abbrev pub view_of_task : RegionView → TaskStart → Option Position → TaskView
+view_of_task r s next = record { region = r; floor = s.floor; variables = s.variables; deferred = map item_of s.deferred.items; next = next }
 
 -- the named terms of its query with the terms that are deferred
 abbrev pub carried : List NamedTerm → List (Item ℕ) → List NamedTerm

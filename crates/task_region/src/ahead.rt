@@ -1,7 +1,7 @@
 //! What lies ahead of a task.
 ghost use Rattle.std.specs.Prelude.{IfOk, None};
 ghost use Rattle.task_region.specs.TaskStandings.{IsUnderWay};
-ghost use Rattle.task_region.specs.TaskViews.{task_at};
+ghost use Rattle.task_region.specs.TaskViews.{view_of_task};
 ghost use Rattle.task_region.specs.TaskRounds.{LooksAhead};
 
 use crate::loading::{AfterDeferred, leave_rest, take_deferred};
@@ -28,8 +28,8 @@ pub(crate) fn task_ahead(
     task: &TaskStart,
     start: Option<Position>,
 ) -> Result<TaskAhead, NoMemory>
-    requires { IsUnderWay (task_at region.old task.now start) }
-    ensures { IfOk result (LooksAhead (task_at region.old task.now start) (task_at region.new task.now None)) }
+    requires { IsUnderWay (view_of_task region.old task.now start) }
+    ensures { IfOk result (LooksAhead (view_of_task region.old task.now start) (view_of_task region.new task.now None)) }
 {
     let ahead = look_ahead(region, alloc, start)?;
     let number = match ahead {

@@ -5,7 +5,7 @@ ghost use Rattle.region_control.specs.Ahead.{IsGoalThere};
 ghost use Rattle.task_region.specs.DeferredItems.{item_of, IsDeferredOver};
 ghost use Rattle.task_region.specs.GoalLoads.{LeavesGoal};
 ghost use Rattle.task_region.specs.TaskStandings.{IsUnderWay};
-ghost use Rattle.task_region.specs.TaskViews.{task_at};
+ghost use Rattle.task_region.specs.TaskViews.{view_of_task};
 ghost use Rattle.task_region.specs.TaskRounds.{TakesGoalNext, PassesRound};
 
 use crate::ahead::{TaskAhead, task_ahead};
@@ -38,9 +38,9 @@ pub(crate) fn pass_round(
     start: Option<Position>,
     more: bool,
 ) -> Result<TaskRound, NoMemory>
-    requires way { IsUnderWay (task_at region.old task.now start) }
+    requires way { IsUnderWay (view_of_task region.old task.now start) }
     requires kinds { kinds.now ≡ region.old.text.code.names }
-    ensures { IfOk result (PassesRound (task_at region.old task.now start) (task_at region.new task.now None) more) }
+    ensures { IfOk result (PassesRound (view_of_task region.old task.now start) (view_of_task region.new task.now None) more) }
 {
     let ahead = task_ahead(region, alloc, task, start)?;
     match ahead {
@@ -61,7 +61,7 @@ fn take_goal(
     requires there { IsGoalThere region.old goal.0 goal.1 }
     requires kinds { kinds.now ≡ region.old.text.code.names }
     requires deferred { Each (IsDeferredOver task.now.variables task.now.floor) (map item_of task.now.deferred.items) }
-    ensures { IfOk result (TakesGoalNext (task_at region.old task.now None) (task_at region.new task.now None) goal.0 goal.1 more) }
+    ensures { IfOk result (TakesGoalNext (view_of_task region.old task.now None) (view_of_task region.new task.now None) goal.0 goal.1 more) }
 {
     let (item, place) = goal;
     region.ends_are_oldest();

@@ -1,7 +1,7 @@
 //! Runs of a task.
 ghost use Rattle.std.specs.Prelude.{◌≡◌, IfOk, Some};
 ghost use Rattle.task_region.specs.TaskStandings.{IsUnderWay};
-ghost use Rattle.task_region.specs.TaskViews.{task_at};
+ghost use Rattle.task_region.specs.TaskViews.{view_of_task};
 ghost use Rattle.task_region.specs.TaskRounds.{RunsOn};
 
 use crate::rounds::{TaskRound, pass_round};
@@ -45,9 +45,9 @@ pub(crate) fn run_on(
     start: Position,
     limit: u64,
 ) -> Result<(TaskRan, Option<Position>), NoMemory>
-    requires way { IsUnderWay (task_at region.old task.now (Some start)) }
+    requires way { IsUnderWay (view_of_task region.old task.now (Some start)) }
     requires kinds { kinds.now ≡ region.old.text.code.names }
-    ensures { IfOk result (λ ran. RunsOn (task_at region.old task.now (Some start)) (task_at region.new task.now ran.1) limit ran.0) }
+    ensures { IfOk result (λ ran. RunsOn (view_of_task region.old task.now (Some start)) (view_of_task region.new task.now ran.1) limit ran.0) }
 {
     let mut next = Some(start);
     let mut taken = 0;

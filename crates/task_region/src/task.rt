@@ -27,16 +27,16 @@ pub struct TaskRegion {
 impl Model for TaskRegion {
     ghost use Rattle.std.specs.Coded.{codes};
     ghost use Rattle.au_term.specs.PrefixOrder.{term_code};
-    ghost use Rattle.task_region.specs.TaskViews.{TaskView, task_at};
+    ghost use Rattle.task_region.specs.TaskViews.{TaskView, view_of_task};
     ghost use Rattle.task_region.specs.TaskStandings.{IsTask};
 
     ghost Value = { TaskView };
 
     ghost coded = { Prim.hlevel (codes, term_code) };
 
-    ghost view = { λ t. task_at t.region t.start t.next };
+    ghost view = { λ t. view_of_task t.region t.start t.next };
 
-    ghost invariant = { λ t. IsTask (task_at t.region t.start t.next) };
+    ghost invariant = { λ t. IsTask (view_of_task t.region t.start t.next) };
 }
 
 impl TaskRegion {
