@@ -1,4 +1,4 @@
-//! Queries that fail, run by hand from the first one's opening to the last one's end. The events are those that the contracts say.
+//! Queries that fail, run by hand: one to its end, and two up to the goal of the second. The events are those that the contracts say.
 ghost use Rattle.std.specs.Prelude.{◌≡◌, [], ◌∷◌, IfOk};
 ghost use Rattle.core_tests.specs.FailingQueries.{failing_query, failing_job, failing_history, StartsFailing};
 
