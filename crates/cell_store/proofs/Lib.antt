@@ -15,3 +15,4 @@ pub mod RuleLemmas
 pub mod SolvingLemmas
 pub mod WritingLemmas
 pub mod MadeBindingLemmas
+pub mod ListGoalLemmas

@@ -17,7 +17,7 @@ use Rattle.au_model.proofs.ApplyLemmas.{apply-apply}
 use Rattle.au_model.proofs.EachLemmas.{each-drop}
 use Rattle.clause_compile.specs.Places.{CodeView, Keeps}
 use Rattle.clause_compile.proofs.PlaceMeaningLemmas.{added_keeps}
-use Rattle.binding_array.specs.Represented.{variable_cell, cell_term, IsBoundCell}
+use Rattle.binding_array.specs.Represented.{variable_cell, cell_term, IsBoundCell, IsFalling}
 use Rattle.binding_array.specs.declared.cell.BindingCell.{BindingCell}
 use Rattle.binding_array.specs.declared.cell.BindingCell.TheVariants.{Free, Var, Int, Atom, Compound}
 use Rattle.binding_array.proofs.RepresentedLemmas.{written}
@@ -280,6 +280,7 @@ module _ (p : Parts) (k : IsConsistent p) (m : Mark) (old : IsConsistentAt p m) 
     rising = bindings_rise p.cells vs rise;
     free = each_of p.cells (λ b. value_of earlier b.0 ≡ VarTerm b.0) vs (λ v c b. free_stands older_code earlier v older_cells old.represents (free_since m p.trail p.cells w.older.variables k.trail v (others v c)));
     there = each_of p.cells (λ b. IsValueIn (view_of p) b.1) vs (λ v c b. has_value code p.cells now k.now.falling k.now.values k.now.represents v b);
+    falling = each_of p.cells (λ b. IsFalling b.0 b.1) vs (λ v c b. k.now.falling v);
     made = λ v. sym (composed (substitution_of (view_of p) (bindings_of p.cells vs)) (λ u e. looked_up u e) v);
   }
     where

@@ -6,6 +6,7 @@ pub mod StoreView
 pub mod Arguments
 pub mod UnificationSteps
 pub mod WrittenTerms
+pub mod ListGoals
 pub mod FreshVariables
 pub mod ArgumentSteps
 pub mod MadeBindings

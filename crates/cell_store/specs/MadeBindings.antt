@@ -4,7 +4,7 @@ use Rattle.std.specs.List.{Contains}
 use Rattle.au_term.specs.Term.{VarTerm}
 use Rattle.au_model.specs.Terms.Each.{Each}
 use Rattle.au_model.specs.Terms.Substitutions.{Substitution, value_of}
-use Rattle.binding_array.specs.Represented.{variable_cell}
+use Rattle.binding_array.specs.Represented.{variable_cell, IsFalling}
 use Rattle.binding_array.specs.declared.cell.BindingCell.{BindingCell}
 use Rattle.binding_array.specs.declared.cell.BindingCell.TheVariants.{Free, Var, Int, Atom, Compound}
 use Rattle.cell_store.specs.StoreView.{Moment, StoreView, substitution, meaning, IsValueIn, IsComposition}
@@ -39,9 +39,11 @@ AreRising (b ∷ bs) = Each (λ d. b.0 < d.0) bs × AreRising bs
 abbrev pub IsSince : List ℕ → ℕ → ℕ → ℕ → Type 0
 IsSince trail below count v = Contains trail v ⊎ ((below ≤ v) × (v < count))
 
--- variables that were free then, each once, with values that make what each variable stands for now of what it stood for
+-- variables that were free then, each once, with values that make what each variable stands for now of what it stood for; none is
+-- bound to a younger variable
 pub record AreMadeSince (before : Moment) (st : StoreView) (bs : Bindings) : Type 0 where
   pub rising : AreRising bs
   pub free : Each (λ b. value_of before.bound b.0 ≡ VarTerm b.0) bs
   pub there : Each (λ b. IsValueIn st b.1) bs
+  pub falling : Each (λ b. IsFalling b.0 b.1) bs
   pub made : IsComposition before.bound (substitution_of st bs) (substitution st)

@@ -1,14 +1,14 @@
--- Terms written cell by cell.
-use Rattle.std.specs.Prelude.{◌≡◌, ℕ, ◌+◌, ◌<◌, List, ◌++◌}
+-- Terms written cell by cell: what a value stands for, or the term that it is.
+use Rattle.std.specs.Prelude.{◌≡◌, ℕ, ◌+◌, ◌<◌, Bool, true, false, List, [], ◌++◌}
 use Rattle.au_term.specs.Term.{Term}
 use Rattle.au_term.specs.PrefixOrder.{cells_of, all_cells}
 use Rattle.au_term.specs.declared.cell.Cell.{Cell}
 use Rattle.au_model.specs.Terms.Lists.{terms_from}
-use Rattle.au_model.specs.Terms.Substitutions.{Substitution}
+use Rattle.au_model.specs.Terms.Substitutions.{Substitution, resolve}
 use Rattle.au_model.specs.Terms.Unifier.{size}
 use Rattle.clause_compile.specs.Places.{CodeView}
 use Rattle.binding_array.specs.declared.cell.BindingCell.{BindingCell}
-use Rattle.cell_store.specs.StoreView.{StoreView, substitution, meaning, text_in}
+use Rattle.cell_store.specs.StoreView.{StoreView, IsUnbound, IsValueIn, substitution, text_in, value_term}
 use Rattle.cell_store.specs.Arguments.{AllThere, pending_terms, resolved_terms, sizes}
 use Rattle.cell_store.specs.declared.arguments.Arguments.{Arguments}
 
@@ -22,6 +22,20 @@ pub record GoesOnWriting (s : Substitution) (code : CodeView) (next : ℕ) (t : 
   pub fewer : sizes (resolved_terms s (pending_terms code new)) < size t + sizes (resolved_terms s (pending_terms code old))
   pub there : AllThere code next old → AllThere code next new
 
--- the first cell of what a value stands for was written
-abbrev pub IsFirstWritten : StoreView → BindingCell → List Cell → List Cell → List Arguments → List Arguments → Type 0
-IsFirstWritten st c before after old new = GoesOnWriting (substitution st) (text_in st) st.now.next (meaning st c) before after old new
+-- what is applied to a value: all that is bound, where bindings are followed
+abbrev pub followed : Bool → StoreView → Substitution
+followed true st = substitution st
+followed false st = []
+
+abbrev pub followed_term : Bool → StoreView → BindingCell → Term
+followed_term follow st c = resolve (followed follow st) (value_term st c)
+
+-- a value that comes to the same, and is no variable for which something is applied
+pub record IsReachedBy (s : Substitution) (st : StoreView) (value reached : BindingCell) : Type 0 where
+  pub same : resolve s (value_term st reached) ≡ resolve s (value_term st value)
+  pub unbound : IsUnbound s reached
+  pub there : IsValueIn st reached
+
+-- the first cell of what a value comes to was written
+abbrev pub IsFirstWritten : Bool → StoreView → BindingCell → List Cell → List Cell → List Arguments → List Arguments → Type 0
+IsFirstWritten follow st c before after old new = GoesOnWriting (followed follow st) (text_in st) st.now.next (followed_term follow st c) before after old new

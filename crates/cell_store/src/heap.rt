@@ -5,10 +5,12 @@ ghost use Rattle.au_term.specs.PrefixOrder.{arity, cell_bound, IsValidCell};
 ghost use Rattle.au_term.specs.Shifted.{shifted_cell};
 ghost use Rattle.clause_compile.specs.AtomNumbers.{name_at};
 ghost use Rattle.clause_compile.specs.Places.{IsArity, IsPlaced, AddsCell, ArePlacesOf};
+ghost use Rattle.au_model.specs.Terms.Forms.{list_term};
 ghost use Rattle.cell_store.specs.HeapView.{heap_text, cut_heap, IsSoundHeap, GrowsHeap, IsNumberedIn};
+ghost use Rattle.cell_store.specs.ListGoals.{AddsTerm, list_goal};
 
 use crate::heap_places::HeapPlaces;
-use au_term::{Atom, Cell, NoMemory, Shared, VarNo};
+use au_term::{Atom, Cell, FlatTerm, NoMemory, Shared, VarNo};
 use clause_compile::{AtomNumbers, Code, Place, compound_place};
 use std::alloc::Global;
 use std::marker::Model;
@@ -95,6 +97,68 @@ impl Heap {
             Some(place) => Ok(place),
             None => unreachable!(),
         }
+    }
+
+    /// Adds the goal that unifies a term with the list of others, and gives the place that means it.
+    pub(crate) fn push_list_goal(
+        &mut self,
+        alloc: Global,
+        term: &FlatTerm,
+        items: &[FlatTerm],
+    ) -> Result<Place, NoMemory>
+        requires { IsSoundHeap self.old }
+        ensures placed { IfOk result (IsPlaced (heap_text self.old) (heap_text self.new) (list_goal term.now items.now)) }
+        ensures grown { GrowsHeap self.old self.new }
+    {
+        let mut stack = Vec::new(alloc);
+        self.push_list(alloc, items, &mut stack)?;
+        self.push_on(term, &mut stack)?;
+        let equals = Atom::ascii(alloc, "=")?;
+        self.push_compound(&equals, 2, &mut stack)?;
+        match stack.pop() {
+            Some(place) => Ok(place),
+            None => unreachable!(),
+        }
+    }
+
+    /// Adds the list of these terms, and puts its place on the stack.
+    fn push_list(
+        &mut self,
+        alloc: Global,
+        items: &[FlatTerm],
+        stack: &mut Vec<Place>,
+    ) -> Result<(), NoMemory>
+        requires heap { IsSoundHeap self.old }
+        requires stand { ArePlacesOf (heap_text self.old) stack.old.items }
+        ensures added { OnOk result (AddsTerm (heap_text self.old) (heap_text self.new) (list_term items.now) stack.old.items stack.new.items) }
+        ensures grown { GrowsHeap self.old self.new }
+    {
+        let nil = Cell::Atom(Atom::ascii(alloc, "[]")?);
+        let dot = Atom::ascii(alloc, ".")?;
+        self.push_cell(&nil, 0, stack)?;
+        let mut left = items.len();
+        while left > 0 {
+            left -= 1;
+            self.push_on(&items[left], stack)?;
+            self.push_compound(&dot, 2, stack)?;
+        }
+        Ok(())
+    }
+
+    /// Adds a term, and puts its place on the stack.
+    fn push_on(&mut self, term: &FlatTerm, stack: &mut Vec<Place>) -> Result<(), NoMemory>
+        requires heap { IsSoundHeap self.old }
+        requires stand { ArePlacesOf (heap_text self.old) stack.old.items }
+        ensures added { OnOk result (AddsTerm (heap_text self.old) (heap_text self.new) term.now stack.old.items stack.new.items) }
+        ensures grown { GrowsHeap self.old self.new }
+    {
+        let cells = term.cells();
+        let mut left = cells.len();
+        while left > 0 {
+            left -= 1;
+            self.push_cell(&cells[left], 0, stack)?;
+        }
+        Ok(())
     }
 
     /// Adds a cell, with a number added to its variable, before those that were added; the places of its arguments are taken

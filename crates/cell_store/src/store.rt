@@ -11,6 +11,7 @@ ghost use Rattle.cell_store.specs.Arguments.{HasFunctor, IsArgument, IsArgumentV
 ghost use Rattle.cell_store.specs.ArgumentSteps.{IsCompoundPlace, IsFreshPlace, IsArgumentReached};
 ghost use Rattle.cell_store.specs.Undoing.{AreNested, freed};
 ghost use Rattle.cell_store.specs.FreshVariables.{AreYoung, IsOlder};
+ghost use Rattle.cell_store.specs.ListGoals.{list_goal};
 ghost use Rattle.cell_store.specs.MadeBindings.{AreMadeSince};
 ghost use Rattle.cell_store.specs.UnificationSteps.{IsUnified, OnlyBinds};
 ghost use Rattle.cell_store.specs.StoreView.{Moment, IsValidStore, IsValueIn, IsDereferenced, CanBeBound, BindsFurther, AddsText, meaning, substitution, text_in, value_term, new_store, with_numbers, with_mark, with_marks, taken_back};
@@ -365,12 +366,31 @@ impl Store {
         Ok(self.value(place, 0))
     }
 
+    /// The value of the goal that unifies a term with the list of others, which is put into the heap.
+    pub fn list_goal(&mut self, term: &FlatTerm, items: &[FlatTerm]) -> Result<BindingCell, NoMemory>
+        requires { var_bound (list_goal term.now items.now) ≤ self.old.now.next }
+        ensures there { IfOk result (IsValueIn self.new) }
+        ensures term { IfOk result (λ value. value_term self.new value ≡ list_goal term.now items.now) }
+        ensures others { AddsText self.old self.new }
+    {
+        let place = self.heap.push_list_goal(self.alloc, term, items)?;
+        Ok(self.value(place, 0))
+    }
+
     /// The term that a value stands for.
     pub fn resolve(&self, value: BindingCell) -> Result<FlatTerm, NoMemory>
         requires { IsValueIn self.now value }
         ensures { IfOk result (λ t. t ≡ meaning self.now value) }
     {
-        resolved(self.alloc, value, self)
+        resolved(self.alloc, value, self, true)
+    }
+
+    /// The term that a value is, as it is written: no binding is followed.
+    pub fn written(&self, value: BindingCell) -> Result<FlatTerm, NoMemory>
+        requires { IsValueIn self.now value }
+        ensures { IfOk result (λ t. t ≡ value_term self.now value) }
+    {
+        resolved(self.alloc, value, self, false)
     }
 
     /// The bindings that were made since a mark, by the number of marks before it: of each variable once, in the order of their

@@ -10,8 +10,7 @@ ghost use Rattle.region_control.specs.declared.ahead.Ahead.{Ahead as AheadValue}
 ghost use Rattle.region_control.specs.Ahead.{is_goal_item, is_compound_first, compound_goal, HasFirst, LiesAhead, EndsFindall, CollectsResult};
 
 use crate::control::GoalPlace;
-use au_model::build::{binary, list_of};
-use au_term::{NoMemory, Shared, VarNo};
+use au_term::{NoMemory, VarNo};
 use binding_array::BindingCell;
 use region_split::{FrameItem, Left, Position, Region, Results, Resumed};
 use std::alloc::Global;
@@ -140,7 +139,7 @@ fn look_further(
                 list,
                 results,
                 after,
-            } => return end_findall(region, alloc, list, &results, after),
+            } => return end_findall(region, list, &results, after),
             Resumed::QueryDone => return Ok(Ahead::QueryDone),
             Resumed::AllDone => return Ok(Ahead::AllDone),
         };
@@ -226,14 +225,13 @@ fn collect(
     ensures collects { OnOk result (CollectsResult region.old region.new value over) }
 {
     let term = region.store().resolve(value)?;
-    region.add_result(alloc, over as usize, &term)
+    region.add_result(alloc, over as usize, term)
 }
 
 /// A findall has no solution left: its list is unified with the results, by a goal.
 #[inline(never)]
 fn end_findall(
     region: &mut Region,
-    alloc: Global,
     list: BindingCell,
     results: &Results,
     after: Position,
@@ -247,10 +245,8 @@ fn end_findall(
         return Err(NoMemory);
     };
     region.fresh(taken)?;
-    let left = region.store().resolve(list)?;
-    let right = list_of(alloc, results.terms())?;
-    let goal = Shared::from_term(alloc, binary(alloc, "=", &left, &right)?)?;
-    let value = region.copy_in(&goal)?;
+    let list = region.store().resolve(list)?;
+    let value = region.list_goal(&list, results.terms())?;
     let cut = region.scope()?;
     let place = GoalPlace { cut, after };
     Ok(Ahead::Goal(FrameItem::Goal(value), place))

@@ -97,9 +97,9 @@ impl Alternatives {
     }
 
     /// Adds a copy of a term to the results of a findall.
-    pub(crate) fn add_result(&mut self, alloc: Global, term: &FlatTerm) -> Result<(), NoMemory>
+    pub(crate) fn add_result(&mut self, alloc: Global, term: FlatTerm) -> Result<(), NoMemory>
         requires { IsCollecting self.old }
-        ensures ok { OnOk result (self.new ≡ with_found term.now self.old) }
+        ensures ok { OnOk result (self.new ≡ with_found term self.old) }
         ensures err { OnErr result (self.new ≡ self.old) }
     {
         match self {

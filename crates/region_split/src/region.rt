@@ -1,8 +1,9 @@
 //! The region.
-ghost use Rattle.std.specs.Prelude.{◌≡◌, ◌<◌, ◌≤◌, IfOk, OnOk, OnErr, MatchOption, IsTrue, ◌↔◌, List, [], length};
+ghost use Rattle.std.specs.Prelude.{◌≡◌, ◌<◌, ◌≤◌, ◌∷◌, IfOk, OnOk, OnErr, MatchOption, IsTrue, ◌↔◌, List, [], length};
 ghost use Rattle.std.specs.Arc.{arc_value};
 ghost use Rattle.au_term.specs.Term.{var_bound};
-ghost use Rattle.cell_store.specs.StoreView.{AddsText, IsValueIn, meaning, text_in, value_term, with_numbers};
+ghost use Rattle.cell_store.specs.ListGoals.{list_goal};
+ghost use Rattle.cell_store.specs.StoreView.{AddsText, BindsFurther, CanBeBound, IsValueIn, meaning, text_in, value_term, with_numbers};
 ghost use Rattle.run_model.specs.Programs.Clauses.{is_defined};
 ghost use Rattle.clause_compile.specs.AtomNumbers.{name_at};
 ghost use Rattle.cell_store.specs.UnificationSteps.{IsUnified, OnlyBinds};
@@ -326,10 +327,10 @@ impl Region {
         &mut self,
         alloc: Global,
         over: usize,
-        term: &FlatTerm,
+        term: FlatTerm,
     ) -> Result<(), NoMemory>
         requires { HasFindallAt self.old over }
-        ensures ok { OnOk result (AddsResult self.old self.new over term.now) }
+        ensures ok { OnOk result (AddsResult self.old self.new over term) }
         ensures err { OnErr result (self.new ≡ self.old) }
     {
         self.choices[over].alternatives.add_result(alloc, term)
@@ -346,6 +347,16 @@ impl Region {
         self.store.fresh(count)
     }
 
+    /// Binds a free variable.
+    pub fn bind(&mut self, variable: u32, value: BindingCell) -> Result<(), NoMemory>
+        requires { CanBeBound self.old.store variable value }
+        ensures ok { OnOk result (BindsFurther self.old.store self.new.store ((variable, meaning self.old.store value) ∷ [])) }
+        ensures stays { StaysStanding self.old self.new }
+        ensures err { OnErr result (self.new ≡ self.old) }
+    {
+        self.store.bind(variable, value)
+    }
+
     /// The value that a term is, whose variables are there: it is put behind the text.
     pub fn copy_in(&mut self, term: &Shared) -> Result<BindingCell, NoMemory>
         requires { var_bound term.now ≤ self.old.store.now.next }
@@ -356,6 +367,18 @@ impl Region {
         ensures keeps { KeepsPositions self.old self.new (length self.old.frames) }
     {
         self.store.copy_in(term)
+    }
+
+    /// The value of the goal that unifies a term with the list of others, whose variables are there: it is put behind the text.
+    pub fn list_goal(&mut self, term: &FlatTerm, items: &[FlatTerm]) -> Result<BindingCell, NoMemory>
+        requires { var_bound (list_goal term.now items.now) ≤ self.old.store.now.next }
+        ensures there { IfOk result (IsValueIn self.new.store) }
+        ensures term { IfOk result (λ value. value_term self.new.store value ≡ list_goal term.now items.now) }
+        ensures text { AddsText self.old.store self.new.store }
+        ensures stays { StaysStanding self.old self.new }
+        ensures keeps { KeepsPositions self.old self.new (length self.old.frames) }
+    {
+        self.store.list_goal(term, items)
     }
 
     /// Makes two values one by further bindings, or answers that none do. Where none do, or out of memory, some bindings may

@@ -51,12 +51,16 @@ impl Results {
         self.next
     }
 
-    /// Adds a copy of a term, with the next numbers.
-    pub(crate) fn push(&mut self, alloc: Global, term: &FlatTerm) -> Result<(), NoMemory>
-        ensures ok { OnOk result (self.new ≡ with_copy term.now self.old) }
+    /// Adds a copy of a term, with the next numbers. A term without variables is its own copy.
+    pub(crate) fn push(&mut self, alloc: Global, term: FlatTerm) -> Result<(), NoMemory>
+        ensures ok { OnOk result (self.new ≡ with_copy term self.old) }
         ensures err { OnErr result (self.new ≡ self.old) }
     {
-        let (copy, takes) = copy_term(alloc, term, self.next)?;
+        if term.bound() == 0 {
+            self.terms.push(term)?;
+            return Ok(());
+        }
+        let (copy, takes) = copy_term(alloc, &term, self.next)?;
         let Some(next) = self.next.checked_add(takes) else {
             return Err(NoMemory);
         };
