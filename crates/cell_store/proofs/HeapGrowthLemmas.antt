@@ -39,6 +39,13 @@ grown_text h names places = ap₂ code_of (sym (append_assoc h.program.names h.n
 pub grown_keeps : (a b : HeapView) → IsSoundHeap a → GrowsHeap a b → Keeps (heap_text a) (heap_text b)
 grown_keeps a b s g = subst (Keeps (heap_text a)) (sym (ap heap_text g.is ∙ grown_text a g.names g.places)) (added_keeps (heap_text a).names g.names (heap_text a).places g.places s.text)
 
+-- a number that a name has
+pub there_number : (h : HeapView) (a : List ℕ) (n : ℕ) → n < length (heap_text h).names → name_at (heap_text h).names n ≡ a → IsNumberedIn h h a n
+there_number h a n within named = record {
+  numbered = record { more = []; is = sym (append-nil (heap_text h).names); few = inl refl; within = within; named = named };
+  places = refl;
+}
+
 -- a name of the program
 pub known_number : (h : HeapView) (a : List ℕ) (n : ℕ) → number_of_name h.program.names a ≡ Some n → IsNumberedIn h h a n
 known_number h a n e =

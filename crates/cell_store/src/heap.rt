@@ -1,5 +1,5 @@
 //! The heap: a program's text, with what was made behind it.
-ghost use Rattle.std.specs.Prelude.{◌≡◌, ◌<◌, ◌≤◌, ◌+◌, ◌^◌, ◌∷◌, [], ◌++◌, IfOk, OnOk, length, drop};
+ghost use Rattle.std.specs.Prelude.{◌≡◌, ◌<◌, ◌≤◌, ◌+◌, ◌^◌, ◌∷◌, [], ◌++◌, IfOk, OnOk, IsTrue, length, drop};
 ghost use Rattle.std.specs.Arc.{arc_value};
 ghost use Rattle.au_term.specs.PrefixOrder.{arity, cell_bound, IsValidCell};
 ghost use Rattle.au_term.specs.Shifted.{shifted_cell};
@@ -23,6 +23,9 @@ pub(crate) struct Heap {
     program: Arc<Code>,
     names: AtomNumbers,
     places: HeapPlaces,
+    /// The last two numbers of names that were asked for, which need be those of no name.
+    recent: u32,
+    older: u32,
 }
 
 impl Model for Heap {
@@ -47,6 +50,8 @@ impl Heap {
             program,
             names: AtomNumbers::new(alloc),
             places,
+            recent: 0,
+            older: 0,
         })
     }
 
@@ -212,8 +217,41 @@ impl Heap {
         put(place, stack)
     }
 
-    /// The number of a name, which gets the next one where it has none.
+    /// The number of a name, which gets the next one where it has none. The functors of a list and of its items come by turns,
+    /// so the last two numbers are looked at first.
     fn number(&mut self, name: &Atom) -> Result<u32, NoMemory>
+        requires { IsSoundHeap self.old }
+        ensures numbered { IfOk result (IsNumberedIn self.old self.new name.now) }
+        ensures grown { GrowsHeap self.old self.new }
+    {
+        if self.has_number(name, self.recent) {
+            return Ok(self.recent);
+        }
+        let number = if self.has_number(name, self.older) {
+            self.older
+        } else {
+            self.search_number(name)?
+        };
+        self.older = self.recent;
+        self.recent = number;
+        Ok(number)
+    }
+
+    /// Whether a name has a number.
+    #[inline]
+    fn has_number(&self, name: &Atom, number: u32) -> bool
+        ensures { IsTrue result → IsNumberedIn self.now self.now name.now number }
+    {
+        let program = self.program.names();
+        let at = number as usize;
+        if at >= program && at - program >= self.names.len() {
+            return false;
+        }
+        self.name(number) == name
+    }
+
+    /// The number of a name, which is searched among all, and gets the next one where it has none.
+    fn search_number(&mut self, name: &Atom) -> Result<u32, NoMemory>
         requires { IsSoundHeap self.old }
         ensures numbered { IfOk result (IsNumberedIn self.old self.new name.now) }
         ensures grown { GrowsHeap self.old self.new }

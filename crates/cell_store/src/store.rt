@@ -367,7 +367,11 @@ impl Store {
     }
 
     /// The value of the goal that unifies a term with the list of others, which is put into the heap.
-    pub fn list_goal(&mut self, term: &FlatTerm, items: &[FlatTerm]) -> Result<BindingCell, NoMemory>
+    pub fn list_goal(
+        &mut self,
+        term: &FlatTerm,
+        items: &[FlatTerm],
+    ) -> Result<BindingCell, NoMemory>
         requires { var_bound (list_goal term.now items.now) ≤ self.old.now.next }
         ensures there { IfOk result (IsValueIn self.new) }
         ensures term { IfOk result (λ value. value_term self.new value ≡ list_goal term.now items.now) }

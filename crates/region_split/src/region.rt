@@ -323,12 +323,7 @@ impl Region {
     }
 
     /// Adds a copy of a term to the results of the findall over so many choice points.
-    pub fn add_result(
-        &mut self,
-        alloc: Global,
-        over: usize,
-        term: FlatTerm,
-    ) -> Result<(), NoMemory>
+    pub fn add_result(&mut self, alloc: Global, over: usize, term: FlatTerm) -> Result<(), NoMemory>
         requires { HasFindallAt self.old over }
         ensures ok { OnOk result (AddsResult self.old self.new over term) }
         ensures err { OnErr result (self.new ≡ self.old) }
@@ -370,7 +365,11 @@ impl Region {
     }
 
     /// The value of the goal that unifies a term with the list of others, whose variables are there: it is put behind the text.
-    pub fn list_goal(&mut self, term: &FlatTerm, items: &[FlatTerm]) -> Result<BindingCell, NoMemory>
+    pub fn list_goal(
+        &mut self,
+        term: &FlatTerm,
+        items: &[FlatTerm],
+    ) -> Result<BindingCell, NoMemory>
         requires { var_bound (list_goal term.now items.now) ≤ self.old.store.now.next }
         ensures there { IfOk result (IsValueIn self.new.store) }
         ensures term { IfOk result (λ value. value_term self.new.store value ≡ list_goal term.now items.now) }

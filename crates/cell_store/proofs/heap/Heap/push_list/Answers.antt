@@ -29,7 +29,7 @@ loop-left-preserved c =
     let within : i < length items = (let w = c.loop-left.invariant.within in omega (arith, w, one)) in
     let functor = subst (λ f. AddsCell (heap_text c.push_on.new.self) (heap_text c.push_compound.new.self) (Functor f 2) c.push_on.new.stack.items c.push_compound.new.stack.items) c.in_ok-dot.ensures c.in_ok-push_compound.ensures.added in
     let adds = compound_of_two (heap_text c.args.self.now) (heap_text c.loop-left.self) (heap_text c.push_on.new.self) (heap_text c.push_compound.new.self) (codes ".") item (list_term (drop c.loop-left.left items))
-        c.args.stack.now.items c.loop-left.stack.items c.push_on.new.stack.items c.push_compound.new.stack.items c.loop-left.invariant.adds c.in_ok-push_on.ensures.added functor in
+    c.args.stack.now.items c.loop-left.stack.items c.push_on.new.stack.items c.push_compound.new.stack.items c.loop-left.invariant.adds c.in_ok-push_on.ensures.added functor in
     let list = ap (λ n. binary (codes ".") item (list_term (drop n items))) one ∙ list_from items i item within c.index-items-left.is in
     record {
       within = omega (arith, within);

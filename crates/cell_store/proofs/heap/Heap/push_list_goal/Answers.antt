@@ -20,5 +20,5 @@ returns-clause-placed c =
     let stack = c.push_compound.new.stack.items in
     let functor = subst (λ f. AddsCell (heap_text c.push_on.new.self) new (Functor f 2) c.push_on.new.stack.items stack) c.in_ok-equals.ensures c.in_ok-push_compound.ensures.added in
     let adds = compound_of_two old (heap_text c.push_list.new.self) (heap_text c.push_on.new.self) new (codes "=") c.args.term.now (list_term c.args.items.now)
-        c.new-stack.result.items c.push_list.new.stack.items c.push_on.new.stack.items stack c.in_ok-push_list.ensures.added c.in_ok-push_on.ensures.added functor in
+    c.new-stack.result.items c.push_list.new.stack.items c.push_on.new.stack.items stack c.in_ok-push_list.ensures.added c.in_ok-push_on.ensures.added functor in
     goal_placed old new c.args.term.now c.args.items.now stack c.pop.new.self.items c.in-Some.place (subst (λ before. AddsTerm old new (list_goal c.args.term.now c.args.items.now) before stack) c.new-stack.ensures.items adds) c.in-Some.ensures.items

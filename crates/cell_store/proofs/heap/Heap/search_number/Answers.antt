@@ -5,7 +5,7 @@ use Rattle.clause_compile.specs.AtomNumbers.{number_of_name, IsNumbered, AreDist
 use Rattle.clause_compile.specs.declared.place.Place.{Place}
 use Rattle.cell_store.specs.HeapView.{HeapView, IsNumberedIn, GrowsHeap, IsSoundHeap}
 use Rattle.cell_store.proofs.HeapGrowthLemmas.{heap_of, grows_same, known_number, new_number, new_grows}
-use Rattle.cell_store.proofs.heap.Heap.number.Goals as goal
+use Rattle.cell_store.proofs.heap.Heap.search_number.Goals as goal
 
 none_if : {X : Type 0} (o : Option X) → ((x : X) → o ≡ Some x → ⊥) → o ≡ None
 none_if None h = refl
