@@ -277,6 +277,7 @@ module _ (p : Parts) (k : IsConsistent p) (m : Mark) (old : IsConsistentAt p m) 
   pub made_since : (vs : List ℕ) → IsStrictlyIncreasing vs → ((v : ℕ) → IsSince (drop m.trail p.trail) m.variables (length p.cells) v → Contains vs v) → ((v : ℕ) → Contains vs v → IsSince (drop m.trail p.trail) m.variables (length p.cells) v)
       → AreMadeSince (moment_at p m) (view_of p) (bindings_of p.cells vs)
   made_since vs rise all others = record {
+    later = let l = w.older.variables in omega (arith, l, length-take-le m.variables (freed (drop m.trail p.trail) p.cells) (omega (arith, l, length-freed (drop m.trail p.trail) p.cells)));
     rising = bindings_rise p.cells vs rise;
     free = each_of p.cells (λ b. value_of earlier b.0 ≡ VarTerm b.0) vs (λ v c b. free_stands older_code earlier v older_cells old.represents (free_since m p.trail p.cells w.older.variables k.trail v (others v c)));
     there = each_of p.cells (λ b. IsValueIn (view_of p) b.1) vs (λ v c b. has_value code p.cells now k.now.falling k.now.values k.now.represents v b);

@@ -40,8 +40,9 @@ abbrev pub IsSince : List ℕ → ℕ → ℕ → ℕ → Type 0
 IsSince trail below count v = Contains trail v ⊎ ((below ≤ v) × (v < count))
 
 -- variables that were free then, each once, with values that make what each variable stands for now of what it stood for; none is
--- bound to a younger variable
+-- bound to a younger variable, and there are as many variables as then or more
 pub record AreMadeSince (before : Moment) (st : StoreView) (bs : Bindings) : Type 0 where
+  pub later : before.next ≤ st.now.next
   pub rising : AreRising bs
   pub free : Each (λ b. value_of before.bound b.0 ≡ VarTerm b.0) bs
   pub there : Each (λ b. IsValueIn st b.1) bs

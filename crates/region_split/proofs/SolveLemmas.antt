@@ -54,6 +54,7 @@ module _ (r r1 r2 : RegionView) (solution : SolutionView) (after : Position) (cu
         position = tt;
         stands = all.stands;
         choices = ap (λ (x : RegionView). x.choices) all.others;
+        marks = all.marks;
         text = ap (λ (x : RegionView). x.text) all.others;
       }
 
@@ -109,6 +110,7 @@ module _ (r r1 r2 : RegionView) (solution : SolutionView) (after : Position) (cu
         position = put.position;
         stands = λ named. put.stands named ∙ (removal.stands named ∙ all.stands named);
         choices = ap (λ (x : RegionView). x.choices) put.others ∙ (ap (λ (x : RegionView). x.choices) removal.others ∙ ap (λ (x : RegionView). x.choices) all.others);
+        marks = put.adds.marks ∙ (ap (λ (x : RegionView). x.store.marks) removal.others ∙ all.marks);
         text = ap (λ (x : RegionView). x.text) put.others ∙ (ap (λ (x : RegionView). x.text) removal.others ∙ ap (λ (x : RegionView). x.text) all.others);
       }
 

@@ -30,6 +30,7 @@ pub stays_twice : (a b c : RegionView) → StaysStanding a b → StaysStanding b
 stays_twice a b c p q = record {
   stands = λ named. q.stands named ∙ p.stands named;
   position = λ cut x i. q.position cut x (p.position cut x i);
+  marks = q.marks ∙ p.marks;
   others = q.others ∙ ap (λ (x : RegionView). record x { store = c.store }) p.others;
 }
 

@@ -28,11 +28,12 @@ pub stays_further : (r : RegionView) (n : ℕ) → StaysStanding r (record r { s
 stays_further r n = record {
   stands = λ named. refl;
   position = λ cut p i. record { frame = i.frame; scoped = scoped_further (text_in r.store) r.store.now.next (r.store.now.next + n) cut (left_here r p) (omega arith) i.scoped; marked = i.marked };
+  marks = refl;
   others = refl;
 }
 
 pub stays_same : (r : RegionView) → StaysStanding r r
-stays_same r = record { stands = λ named. refl; position = λ cut p i. i; others = refl }
+stays_same r = record { stands = λ named. refl; position = λ cut p i. i; marks = refl; others = refl }
 
 -- what is left at a position stays where text was added
 pub goes_on_there : (r new : RegionView) → AddsText r.store new.store → StaysStanding r new → (cut : ℕ) (p : Position) → IsPositionOver r cut p → (named : List NamedTerm) → continuation_here named new p ≡ continuation_here named r p
@@ -124,7 +125,7 @@ module _ (r : RegionView) (k : IsConsistentRegion r) (new : StoreView) (adds : A
   }
 
   pub text_added : StaysStanding r added
-  text_added = record { stands = stands; position = position; others = refl }
+  text_added = record { stands = stands; position = position; marks = adds.marks; others = refl }
 
   pub positions_kept : KeepsPositions r added (length r.frames)
   positions_kept = record {

@@ -50,6 +50,7 @@ pub record TriesSolution (old new : RegionView) (solution : SolutionView) (after
   pub position : IsOptionalPosition new cut reached
   pub stands : (named : List NamedTerm) → standing named new ≡ standing named old
   pub choices : new.choices ≡ old.choices
+  pub marks : new.store.marks ≡ old.store.marks
   pub text : new.text ≡ old.text
 
 abbrev pub AreSolutionsHere : RegionView → List SolutionView → Type 0

@@ -170,8 +170,9 @@ pub record AddsResult (old new : RegionView) (over : ℕ) (t : Term) : Type 0 wh
   pub many : length new.choices ≡ length old.choices
   pub others : new ≡ record old { choices = new.choices }
 
--- the store went on: the choice points stand for what they stood for, and positions stay
+-- the store went on from the same marks: the choice points stand for what they stood for, and positions stay
 pub record StaysStanding (old new : RegionView) : Type 0 where
   pub stands : (named : List NamedTerm) → standing named new ≡ standing named old
   pub position : (cut : ℕ) (p : Position) → IsPositionOver old cut p → IsPositionOver new cut p
+  pub marks : new.store.marks ≡ old.store.marks
   pub others : new ≡ record old { store = new.store }

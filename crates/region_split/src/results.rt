@@ -51,6 +51,13 @@ impl Results {
         self.next
     }
 
+    /// The results themselves.
+    pub fn into_terms(self) -> Vec<FlatTerm>
+        ensures { result.items ≡ self.terms }
+    {
+        self.terms
+    }
+
     /// Adds a copy of a term, with the next numbers. A term without variables is its own copy.
     pub(crate) fn push(&mut self, alloc: Global, term: FlatTerm) -> Result<(), NoMemory>
         ensures ok { OnOk result (self.new ≡ with_copy term self.old) }

@@ -129,7 +129,7 @@ impl Solutions {
     }
 
     /// Takes the first.
-    pub(crate) fn take(&mut self) -> Option<Solution>
+    pub fn take(&mut self) -> Option<Solution>
         ensures { MatchOption result ((self.old ≡ []) × (self.new ≡ self.old)) (λ solution. self.old ≡ solution ∷ self.new) }
     {
         self.turned.pop()

@@ -146,7 +146,7 @@ impl Text {
 
     /// Takes the first clause off those that a cursor has left.
     #[inline]
-    pub(crate) fn take(&self, left: &mut Cursor) -> Option<u32>
+    pub fn take(&self, left: &mut Cursor) -> Option<u32>
         requires { IsCursorOf self.now.heads left.old }
         ensures taken { MatchOption result ((numbers_left self.now.heads left.old ≡ []) × (left.new ≡ left.old)) (TakesLeast self.now.heads left.old left.new) }
         ensures many { length self.now.heads ≡ length self.now.clauses }
