@@ -9,7 +9,7 @@ ghost use Rattle.region_split.specs.ClauseTrials.{TriesClause, KeepsChoices, Cal
 
 use crate::candidates::{candidates, first_match, next_match, only_candidate};
 use crate::choice::{Alternatives, Trial};
-use crate::frame::{Frame, FrameBody, Position};
+use crate::frame::Position;
 use crate::keys::goal_numbers;
 use crate::region::Region;
 use crate::text::BodyItem;
@@ -40,11 +40,7 @@ impl Region {
         if let Some(BodyItem::BodyEnd) = self.text().get(placed.body) {
             return Ok(Some(trial.after));
         }
-        let number = self.push_frame(Frame {
-            body: FrameBody::Text(base),
-            cut,
-            after: trial.after,
-        })?;
+        let number = self.push_body(base, cut, trial.after)?;
         Ok(Some(Position {
             frame: number,
             at: placed.body,

@@ -137,7 +137,7 @@ impl Region {
         if position.frame == 0 {
             return Left::Nothing;
         }
-        let frame = self.frames[position.frame as usize - 1];
+        let frame = &self.frames[position.frame as usize - 1];
         match frame.body {
             FrameBody::Text(base) => match self.text.get(position.at) {
                 Some(BodyItem::Goal(place)) => {
@@ -176,6 +176,22 @@ impl Region {
             self.frames.push(frame)?;
         }
         Ok(number)
+    }
+
+    /// Makes a frame of a body of the text, with a number added to its variables, and gives the frame's number.
+    #[inline(never)]
+    pub(crate) fn push_body(
+        &mut self,
+        base: u32,
+        cut: u32,
+        after: Position,
+    ) -> Result<u32, NoMemory>
+        requires { after.frame ≤ length self.old.frames }
+        ensures ok { IfOk result (AddsFrame self.old self.new (record { body = FrameBody.Text base; cut = cut; after = after })) }
+        ensures err { OnErr result (self.new ≡ self.old) }
+    {
+        let body = FrameBody::Text(base);
+        self.push_frame(Frame { body, cut, after })
     }
 
     /// Puts an item with its scope before what follows at a position, and gives the position at which it is left.

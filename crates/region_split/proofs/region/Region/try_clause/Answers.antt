@@ -58,4 +58,4 @@ returns-clause-tried c =
     let b = begins r c.args.trial c.placed-placed.result c.text.result.now c.store.result.now c.text.ensures c.store.ensures.store c.requires.clause c.placed-placed.ensures.clause c.placed-placed.ensures.sound c.store.ensures.program c.next-base.ensures.sound c.requires.goal in
     let first = c.next-base.ensures.next ∙ ap (λ (x : StoreView). x.now.next) c.store.ensures.store in
     enters_body r c.args.trial c.args.cut c.placed-placed.result b c.fresh.new.self c.unify_head.new.self c.store-2.result.now c.next-base.result c.value-head.result c.in_ok-fresh.ensures.ok c.store-2.ensures.store first c.value-head.ensures.term c.unify_head.ensures.kept c.unify_head.ensures.stays
-    (subst (IsUnified c.args.trial.goal c.value-head.result c.fresh.new.self.store c.unify_head.new.self.store) c.if-not-branch.false c.in_ok-unify_head.ensures.unified) c.requires.after c.push_frame.new.self c.in_ok-number.number c.in_ok-number.ensures.ok
+    (subst (IsUnified c.args.trial.goal c.value-head.result c.fresh.new.self.store c.unify_head.new.self.store) c.if-not-branch.false c.in_ok-unify_head.ensures.unified) c.requires.after c.push_body.new.self c.in_ok-number.number c.in_ok-number.ensures.ok
