@@ -26,7 +26,7 @@ fn variable(alloc: Global, number: VarNo) -> Result<FlatTerm, NoMemory>
 /// A variable, bare or as the argument of `g`.
 type Side = (bool, VarNo);
 
-fn side(alloc: Global, side: Side) -> Result<FlatTerm, NoMemory> {
+pub(crate) fn side(alloc: Global, side: Side) -> Result<FlatTerm, NoMemory> {
     let bare = variable(alloc, side.1)?;
     if side.0 {
         unary(alloc, "g", &bare)
@@ -35,7 +35,7 @@ fn side(alloc: Global, side: Side) -> Result<FlatTerm, NoMemory> {
     }
 }
 
-fn both(alloc: Global, sides: &[Side; 2]) -> Result<FlatTerm, NoMemory> {
+pub(crate) fn both(alloc: Global, sides: &[Side; 2]) -> Result<FlatTerm, NoMemory> {
     binary(alloc, "p", &side(alloc, sides[0])?, &side(alloc, sides[1])?)
 }
 
@@ -47,7 +47,7 @@ fn code(alloc: Global) -> Result<Code, Fail> {
 }
 
 /// A store over that text, with four variables.
-fn store(alloc: Global) -> Result<Store, Fail> {
+pub(crate) fn store(alloc: Global) -> Result<Store, Fail> {
     let mut store = Store::new(alloc, Arc::new(alloc, code(alloc)?)?)?;
     store.fresh(4)?;
     Ok(store)
@@ -85,7 +85,7 @@ fn unify(
     Ok(unified)
 }
 
-fn unifies(
+pub(crate) fn unifies(
     rt: &impl Abort,
     alloc: Global,
     store: &mut Store,

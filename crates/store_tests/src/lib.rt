@@ -12,3 +12,5 @@ mod clause_indexes;
 mod common;
 #[cfg(test)]
 mod values;
+#[cfg(test)]
+mod written;
