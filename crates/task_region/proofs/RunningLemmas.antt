@@ -96,6 +96,10 @@ under_way t start e k = record {
   run = subst (λ next. HasOwnRun (record t { next = next })) e (subst (λ next. IfSome next (λ p. HasOwnRun t)) e k.run);
 }
 
+none_is_none : (next : Option Position) → next ≡ None → IsSome next → ⊥
+none_is_none None e h = absurd cc
+none_is_none (Some p) e h = absurd cc
+
 if_any : (next : Option Position) (X : Type 0) → X → IfSome next (λ p. X)
 if_any None X x = tt
 if_any (Some p) X x = x
@@ -116,18 +120,15 @@ module _ (old new : TaskView) (limit : ℕ) (ran : TaskRan) (o : RunsOn old new 
     run = run_left ran.stop o.there.1 (o.run way.run.run way.run.inferences way.run.named way.run.stands);
   }
 
-  pub runs_task : (before : TaskView) → before ≡ old → RunsTask before new limit ran
-  runs_task before e = record {
+  pub runs_task : (before : TaskView) → before ≡ old → IsSome old.next → RunsTask before new limit ran
+  runs_task before e going = record {
     run = λ r k named going s. o.run r k named (subst (StandsOnRun r k named) e s);
     within = o.within;
     all = o.all;
     next = o.there.1;
     same = subst (λ (t : TaskView). SameTask t new) (sym e) o.same;
+    idle = λ none. absurd (none_is_none before.next none (subst (λ (t : TaskView). IsSome t.next) (sym e) going));
   }
-
-none_is_none : (next : Option Position) → next ≡ None → IsSome next → ⊥
-none_is_none None e h = absurd cc
-none_is_none (Some p) e h = absurd cc
 
 -- a task of whose run nothing is left
 pub ended_task : (t : TaskView) (limit : ℕ) → t.next ≡ None → RunsTask t t limit (record { taken = 0; stop = Empty })
@@ -137,4 +138,5 @@ ended_task t limit e = record {
   all = λ u. absurd u;
   next = e;
   same = record { text = refl; floor = refl; variables = refl; deferred = refl };
+  idle = λ e. (refl, refl, refl);
 }

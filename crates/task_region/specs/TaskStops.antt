@@ -57,10 +57,12 @@ pub record SameTask (old new : TaskView) : Type 0 where
   pub variables : new.variables ≡ old.variables
   pub deferred : new.deferred ≡ old.deferred
 
--- a task that goes on takes at most so many inferences of its run, and all of them where it stops for no other cause
+-- a task that goes on takes at most so many inferences of its run, and all of them where it stops for no other cause; one that is at
+-- its end stays there
 pub record RunsTask (old new : TaskView) (limit : ℕ) (ran : TaskRan) : Type 0 where
   pub run : (r : RegionRun) (k : ℕ) (named : List NamedTerm) → IsSome old.next → StandsOnRun r k named old → StopsTask r (k + ran.taken) named new ran.stop
   pub within : ran.taken ≤ limit
   pub all : IsLimit ran.stop → ran.taken ≡ limit
   pub next : LeavesNext ran.stop new.next
   pub same : SameTask old new
+  pub idle : old.next ≡ None → (ran.taken ≡ 0) × (ran.stop ≡ Empty) × (new ≡ old)
