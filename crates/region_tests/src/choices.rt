@@ -153,7 +153,7 @@ fn add_result(
 ) -> Result<(), NoMemory> {
     let term = atom(alloc, "a")?;
     assert!(rt; region.is_findall(over));
-    region.add_result(alloc, over, &term)
+    region.add_result(alloc, over, term)
 }
 
 fn keep_results(rt: &impl Abort, alloc: Global, region: &mut Region) -> Result<(), Fail> {
