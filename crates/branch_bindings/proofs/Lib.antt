@@ -1,3 +1,8 @@
 mod MadeUnifierLemmas
 mod SameUnifierLemmas
 mod CellEquationLemmas
+pub mod ExtensionLemmas
+pub mod ExtendedUnifierLemmas
+pub mod SettledBindingLemmas
+pub mod SettledExtensionLemmas
+pub mod WrittenBindingLemmas
