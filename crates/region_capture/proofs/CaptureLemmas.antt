@@ -1,0 +1,185 @@
+-- A region that is taken off, choice point by choice point.
+use Rattle.std.proofs.Common.{◌≡◌, ℕ, ◌+◌, ◌-◌, ◌<◌, ◌≤◌, List, [], ◌∷◌, ◌++◌, append_assoc, append-nil, length, length-append, drop, take, slice_get, Some, refl, sym, ap, ◌∙◌, subst, arith}
+use Rattle.std.proofs.lemmas.List.{same_from_push, drop-append-le}
+use Rattle.std.proofs.Math.Seq.{take-append_seam}
+use Rattle.au_model.specs.Terms.Each.{Each}
+use Rattle.au_model.specs.Terms.Named.{NamedTerm}
+use Rattle.run_model.specs.Machine.Entries.{Entry}
+use Rattle.cell_store.specs.StoreView.{Moment}
+use Rattle.region_split.specs.ChoicePoints.{height_of_cut}
+use Rattle.region_split.specs.QueryEnds.{StandsForNoEnd}
+use Rattle.region_split.specs.Regions.{RegionView, entries_of, heights_of, items_here, IsPositionIn}
+use Rattle.region_split.specs.declared.choice.ChoicePoint.{ChoicePoint}
+use Rattle.region_split.specs.declared.frame.Position.{Position}
+use Rattle.region_split.proofs.RegionLemmas.{EndsWith, ends_with}
+use Rattle.region_capture.specs.CapturedItems.{ItemLists, AddsItems}
+use Rattle.region_capture.specs.CapturedMeanings.{MeansAlternative}
+use Rattle.region_capture.specs.CapturedChoices.{BoundThen, MeantChoice, group_entries, bound_under, CaptureChoices, CapturesChoice, meant_entries, AreHeightsOf}
+use Rattle.region_capture.specs.CapturedRegions.{IsFloor, bound_at, CapturesRegion}
+use Rattle.region_capture.specs.CaptureSteps.{CapturesPosition, CapturesNewest, HasOwnOnTop}
+use Rattle.region_capture.specs.declared.captured.Captured.{Captured}
+use Rattle.region_capture.specs.declared.captured.CapturedChoice.{CapturedChoice}
+use Rattle.region_capture.proofs.ChoiceLemmas.{more_choices, under-append, choices-append, entries-append, heights-append}
+use Rattle.region_capture.proofs.ComesBackLemmas.{whole_height}
+use Rattle.region_capture.proofs.ItemLemmas.{got_still, got_next, items_kept}
+use Rattle.region_capture.proofs.MeantLemmas.{same_entries}
+use Rattle.region_capture.proofs.ReachedLemmas.{left_at, position_means}
+
+-- the newest mark
+abbrev pub IsNewest : RegionView → Moment → Type 0
+IsNewest r m = (before : List Moment) × (r.store.marks ≡ before ++ m ∷ [])
+
+-- choice points were taken off down to those of a region
+pub record CapturesDownTo (old r : RegionView) (floor : ℕ) (lists : ItemLists) (taken : List CapturedChoice) : Type 0 where
+  pub choices : List MeantChoice
+  pub captured : (m : Moment) → IsNewest r m → CaptureChoices lists (bound_at m) (length r.choices) taken choices
+  pub newest : (m top : Moment) → IsNewest r m → IsNewest old top → bound_under (bound_at m) choices ≡ bound_at top
+  pub entries : (named : List NamedTerm) → entries_of named old ≡ meant_entries (heights_of named old) named choices ++ entries_of named r
+  pub heights : (named : List NamedTerm) → AreHeightsOf (heights_of named old) named (length r.choices) (length (entries_of named r)) choices
+  pub below : (named : List NamedTerm) (n : ℕ) → n ≤ length r.choices → height_of_cut (heights_of named r) n ≡ height_of_cut (heights_of named old) n
+  pub rest : List ChoicePoint
+  pub were : old.choices ≡ r.choices ++ rest
+  pub moments : List Moment
+  pub marked : old.store.marks ≡ r.store.marks ++ moments
+  pub many : length r.store.marks ≡ length r.choices
+  pub high : floor ≤ length r.choices
+  pub text : r.text ≡ old.text
+
+-- none yet
+pub captures_start : (r : RegionView) (floor : ℕ) (lists : ItemLists) → length r.store.marks ≡ length r.choices → floor ≤ length r.choices → CapturesDownTo r r floor lists []
+captures_start r floor lists many high = record {
+  choices = [];
+  captured = λ m is. tt;
+  newest = λ m top is at. ap bound_at (same_from_push is.0 at.0 m top (sym is.1 ∙ at.1)).1;
+  entries = λ named. refl;
+  heights = λ named. whole_height r named many;
+  below = λ named n le. refl;
+  rest = [];
+  were = sym (append-nil r.choices);
+  moments = [];
+  marked = sym (append-nil r.store.marks);
+  many = many;
+  high = high;
+  text = refl;
+}
+
+-- one more
+module _ (old r new : RegionView) (floor : ℕ) (some : 1 ≤ floor) (lists more : ItemLists) (taken : List CapturedChoice) (c : CapturedChoice) (k : CapturesDownTo old r floor lists taken) (over : floor < length r.choices) (n : CapturesNewest r new lists more c) where
+  abbrev ms : List MeantChoice
+  ms = k.choices
+
+  one_less : length r.choices ≡ length new.choices + 1
+  one_less = ap (λ (cs : List ChoicePoint). length cs) n.choices ∙ length-append new.choices (n.newest ∷ [])
+
+  marks_less : length r.store.marks ≡ length new.store.marks + 1
+  marks_less = ap (λ (xs : List Moment). length xs) n.marked ∙ length-append new.store.marks (new.store.now ∷ [])
+
+  now_many : length new.store.marks ≡ length new.choices
+  now_many = let a = one_less in let b = marks_less in let d = k.many in omega (arith, a, b, d)
+
+  last : EndsWith new.store.marks (length new.store.marks - 1)
+  last = ends_with new.store.marks (length new.store.marks - 1) (let a = one_less in let b = now_many in omega (arith, some, over, a, b))
+
+  own : (m : Moment) → IsNewest new m → CapturesChoice more (bound_at m) (length new.choices) c n.meant
+  own m is = n.captures is.0 m is.1
+
+  before : CaptureChoices more n.meant.came (length r.choices) taken ms
+  before = more_choices lists more n.meant.came (length r.choices) taken ms n.adds (subst (λ (b : BoundThen). CaptureChoices lists b (length r.choices) taken ms) (sym n.came) (k.captured new.store.now (new.store.marks, n.marked)))
+
+  agree : (named : List NamedTerm) (i : ℕ) → i ≤ length new.choices → height_of_cut (heights_of named r) i ≡ height_of_cut (heights_of named old) i
+  agree named i le = k.below named i (let e = one_less in omega (arith, le, e))
+
+  group : (named : List NamedTerm) → group_entries (heights_of named r) named n.meant ≡ group_entries (heights_of named old) named n.meant
+  group named =
+      let m = last.last in
+      let d = own m (last.before, last.is) in
+      same_entries more n.meant.came.bound c.next (length new.choices) n.meant.kind (heights_of named r) (heights_of named old) named c.alternatives.items n.meant.alternatives (agree named) d.alternatives
+
+  now_below : (named : List NamedTerm) (i : ℕ) → i ≤ length new.choices → height_of_cut (heights_of named new) i ≡ height_of_cut (heights_of named old) i
+  now_below named i le = n.heights named i le ∙ agree named i le
+
+  parts : (named : List NamedTerm) → entries_of named r ≡ group_entries (heights_of named old) named n.meant ++ entries_of named new
+  parts named = n.entries named ∙ ap (λ es. es ++ entries_of named new) (group named)
+
+  pub captures_next : CapturesDownTo old new floor more (taken ++ c ∷ [])
+  captures_next = record {
+    choices = ms ++ n.meant ∷ [];
+    captured = λ m is. choices-append more (bound_at m) (length new.choices) (length r.choices) taken ms c n.meant one_less before (own m is);
+    newest = λ m top is at. under-append (bound_at m) ms n.meant ∙ (ap (λ (b : BoundThen). bound_under b ms) n.came ∙ k.newest new.store.now top (new.store.marks, n.marked) at);
+    entries = λ named.
+        k.entries named
+        ∙ (ap (λ es. meant_entries (heights_of named old) named ms ++ es) (parts named)
+        ∙ (sym (append_assoc (meant_entries (heights_of named old) named ms) (group_entries (heights_of named old) named n.meant) (entries_of named new)) ∙ ap (λ es. es ++ entries_of named new) (sym (entries-append (heights_of named old) named ms n.meant))));
+    heights = λ named.
+        heights-append (heights_of named old) named (length new.choices) (length r.choices) (length (entries_of named new)) (length (entries_of named r)) ms n.meant one_less
+        (ap (λ (es : List Entry). length es) (parts named) ∙ length-append (group_entries (heights_of named old) named n.meant) (entries_of named new)) (k.heights named) (sym (now_below named (length new.choices) (omega arith)) ∙ whole_height new named now_many);
+    below = now_below;
+    rest = n.newest ∷ k.rest;
+    were = k.were ∙ (ap (λ cs. cs ++ k.rest) n.choices ∙ append_assoc new.choices (n.newest ∷ []) k.rest);
+    moments = new.store.now ∷ k.moments;
+    marked = k.marked ∙ (ap (λ xs. xs ++ k.moments) n.marked ∙ append_assoc new.store.marks (new.store.now ∷ []) k.moments);
+    many = now_many;
+    high = let e = one_less in omega (arith, over, e);
+    text = n.text ∙ k.text;
+  }
+
+  pub fewer : length new.choices < length r.choices
+  fewer = let e = one_less in omega (arith, e)
+
+-- the newest one is no end of a query
+each_in : {X : Type 0} (P : X → Type 0) (xs : List X) (x : X) (ys : List X) → Each P (xs ++ x ∷ ys) → P x
+each_in P [] x ys k = k.0
+each_in P (y ∷ xs) x ys k = each_in P xs x ys k.1
+
+pub own_there : (old r : RegionView) (floor : ℕ) (lists : ItemLists) (taken : List CapturedChoice) → IsFloor floor old → CapturesDownTo old r floor lists taken → floor < length r.choices → HasOwnOnTop r
+own_there old r floor lists taken f k over cs c is =
+    let long : length r.choices ≡ length cs + 1 = ap (λ (xs : List ChoicePoint). length xs) is ∙ length-append cs (c ∷ []) in
+    let whole : old.choices ≡ cs ++ c ∷ k.rest = k.were ∙ (ap (λ xs. xs ++ k.rest) is ∙ append_assoc cs (c ∷ []) k.rest) in
+    each_in StandsForNoEnd (drop floor cs) c k.rest (subst (Each StandsForNoEnd) (ap (drop floor) whole ∙ drop-append-le floor cs (c ∷ k.rest) (omega (arith, over, long))) f.own)
+
+-- all were taken off
+module _ (old new : RegionView) (floor : ℕ) (p : Position) (none first : ItemLists) (c : Captured) (f : IsFloor floor old) (there : IsPositionIn old p) (many : length old.store.marks ≡ length old.choices) (mark : ℕ) (at : mark + 1 ≡ length old.choices)
+    (current : CapturesPosition old mark p none first c.current) (adds : AddsItems first c.items) (k : CapturesDownTo old new floor c.items c.choices.items) (low : length new.choices ≤ floor) where
+  same : length new.choices ≡ floor
+  same = let h = k.high in omega (arith, low, h)
+
+  start : EndsWith new.store.marks (floor - 1)
+  start = ends_with new.store.marks (floor - 1) (let e = same in let m = k.many in let s = f.some in omega (arith, e, m, s))
+
+  top : EndsWith old.store.marks mark
+  top = ends_with old.store.marks mark (many ∙ sym at)
+
+  abbrev under : BoundThen
+  under = bound_under (bound_at start.last) k.choices
+
+  under_is : under ≡ bound_at top.last
+  under_is = k.newest start.last top.last (start.before, start.is) (top.before, top.is)
+
+  means : MeansAlternative c.items under.bound under.next (length old.choices) c.current (left_at old p)
+  means =
+      let m = position_means old mark (length old.choices) p none first c.current top.last (record { before = top.before; after = []; are = top.is; over = sym top.long }) there current in
+      subst (λ (b : BoundThen). MeansAlternative c.items b.bound b.next (length old.choices) c.current (left_at old p)) (sym under_is)
+      (record { items = items_kept first c.items c.current.first (items_here old p) adds m.items; extends = m.extends; next = m.next; more = m.more; over = m.over })
+
+  got : slice_get old.store.marks (floor - 1) ≡ Some start.last
+  got =
+      let place : length start.before ≡ floor - 1 = start.long in
+      ap (λ (xs : List Moment). slice_get xs (floor - 1)) k.marked
+      ∙ got_still new.store.marks k.moments (floor - 1) start.last (ap (λ (xs : List Moment). slice_get xs (floor - 1)) start.is ∙ (ap (slice_get (start.before ++ start.last ∷ [])) (sym place) ∙ got_next start.before [] start.last))
+
+  pub region_captured : CapturesRegion old new floor p c
+  region_captured = record {
+    start = start.last;
+    marked = got;
+    current = left_at old p;
+    choices = k.choices;
+    goes_on = means;
+    now = refl;
+    entry = λ named. refl;
+    captured = subst (λ n. CaptureChoices c.items (bound_at start.last) n c.choices.items k.choices) same (k.captured start.last (start.before, start.is));
+    entries = k.entries;
+    heights = λ named. subst (λ n. AreHeightsOf (heights_of named old) named n (length (entries_of named new)) k.choices) same (k.heights named);
+    below = λ named n le. k.below named n (let h = k.high in omega (arith, le, h));
+    left = sym (ap (take floor) k.were ∙ (ap (λ n. take n (new.choices ++ k.rest)) (sym same) ∙ take-append_seam new.choices k.rest));
+    text = k.text;
+  }

@@ -1,0 +1,156 @@
+-- Choice points that were taken off, and written down.
+use Rattle.std.proofs.Common.{◌≡◌, ℕ, Vec, ◌+◌, ◌≤◌, List, [], ◌∷◌, ◌++◌, append-nil, length, length-append, map, refl, sym, ap, ap₂, ◌∙◌, subst, arith}
+use Rattle.std.specs.Global.{Global}
+use Rattle.au_term.specs.Term.{Term}
+use Rattle.au_model.specs.Terms.Named.{NamedTerm}
+use Rattle.au_model.specs.Terms.Substitutions.{Substitution, resolve}
+use Rattle.au_model.proofs.EachLemmas.{each-more}
+use Rattle.run_model.specs.Machine.Items.{Item, GoalItem, CatchMark, CollectMark, RemovalItem, Continuation}
+use Rattle.run_model.specs.Machine.Entries.{PlainEntry, CatchEntry, FindallEntry}
+use Rattle.binding_array.specs.declared.cell.BindingCell.{BindingCell}
+use Rattle.cell_store.specs.StoreView.{Moment, IsValidStore, value_term}
+use Rattle.branch_bindings.specs.Extensions.{ExtendsBy}
+use Rattle.branch_bindings.specs.ExtensionLaws.{NothingExtends}
+use Rattle.region_split.specs.QueryEnds.{IsEnd}
+use Rattle.region_split.specs.Regions.{RegionView, heights_of, items_here, IsPositionIn}
+use Rattle.region_split.specs.StackOperations.{TakesNewest}
+use Rattle.region_split.specs.ResultLists.{ResultsView}
+use Rattle.region_split.specs.declared.choice.Alternatives.{Alternatives}
+use Rattle.region_split.specs.declared.choice.Alternatives.TheVariants.{Elsewhere, Catch as CatchOf, Findall as FindallOf}
+use Rattle.region_split.specs.declared.choice.ChoicePoint.{ChoicePoint}
+use Rattle.region_split.specs.declared.frame.Position.{Position}
+use Rattle.region_capture.specs.CapturedItems.{ItemLists, IsItemOver}
+use Rattle.region_capture.specs.CapturedMeanings.{MeantAlternative, MeansAlternative, AreMeant, meant_entry, meant_continuation, captured_bindings}
+use Rattle.region_capture.specs.CapturedChoices.{MeantChoice, group_entries, IsAloneOf, CapturesChoice}
+use Rattle.region_capture.specs.CapturedRegions.{bound_at}
+use Rattle.region_capture.specs.CaptureSteps.{AreWrittenSince, CapturesFollowing, CapturesUpTo, CapturesGroup, CapturesNewest, HasOwnOnTop, entries_here, no_entries}
+use Rattle.region_capture.specs.declared.captured.CapturedAlternative.{CapturedAlternative}
+use Rattle.region_capture.specs.declared.captured.CapturedChoice.{CapturedChoice}
+use Rattle.region_capture.specs.declared.captured.CapturedKind.{CapturedKind}
+use Rattle.region_capture.specs.declared.captured.CapturedKind.TheVariants.{Choice, Catch, Findall}
+use Rattle.region_capture.proofs.ComesBackLemmas.{stays_there}
+use Rattle.region_capture.proofs.MeantLemmas.{same_entries}
+use Rattle.region_capture.proofs.PositionLemmas.{items_over}
+
+-- with more variables
+wider : (next more cut : ℕ) → next ≤ more → (i : Item ℕ) → IsItemOver next cut i → IsItemOver more cut i
+wider next more cut le (GoalItem t c) o = (let b = o.0 in omega (arith, b, le), o.1)
+wider next more cut le (CatchMark over) o = o
+wider next more cut le (CollectMark t over) o = (let b = o.0 in omega (arith, b, le), o.1)
+wider next more cut le (RemovalItem number) o = tt
+
+-- an alternative that goes on with nothing bound
+module _ (r : RegionView) (after : Position) (next : ℕ) (valid : IsValidStore r.store) (nothing : NothingExtends) (there : IsPositionIn r after) (most : r.store.now.next ≤ next) where
+  abbrev pub following : MeantAlternative
+  following = record { items = items_here r after; bound = r.store.now.bound; next = next }
+
+  pub following_captured : (kind : CapturedKind) (alternatives : Alternatives) (lists more : ItemLists) (taken : List CapturedAlternative) → ((named : List NamedTerm) → entries_here r alternatives after named ≡ meant_entry kind (heights_of named r) named following ∷ [])
+      → CapturesFollowing r lists more after next taken → CapturesUpTo kind r r lists more (entries_here r alternatives after) no_entries taken
+  following_captured kind alternatives lists more taken is f =
+      let a = f.alternative in
+      let means : MeansAlternative more r.store.now.bound r.store.now.next (length r.choices) a following
+      = record {
+        items = f.items;
+        extends = subst (λ bs. ExtendsBy r.store.now.bound r.store.now.bound a.next (captured_bindings bs)) (sym f.bindings) (nothing r.store.now.bound a.next valid.final);
+        next = sym f.next_is;
+        more = let e = f.next_is in omega (arith, e, most);
+        over = each-more (IsItemOver r.store.now.next (length r.choices)) (IsItemOver a.next (length r.choices)) (wider r.store.now.next a.next (length r.choices) (let e = f.next_is in omega (arith, e, most))) (items_here r after) (items_over r (length r.choices) after there);
+      } in
+      record {
+        meant = following ∷ [];
+        are = subst (λ cs. AreMeant more r.store.now.bound r.store.now.next (length r.choices) cs (following ∷ [])) (sym f.is) (means, tt);
+        entries = is;
+        adds = f.adds;
+        back = stays_there r;
+      }
+
+-- what goes on elsewhere, a catch, and a findall
+module _ (r : RegionView) (after : Position) (next : ℕ) (valid : IsValidStore r.store) (nothing : NothingExtends) (there : IsPositionIn r after) (lists more : ItemLists) (a : Alternatives) (taken : List CapturedAlternative) (f : CapturesFollowing r lists more after next taken) where
+  one : length taken ≡ 1
+  one = ap (λ (cs : List CapturedAlternative). length cs) f.is
+
+  abbrev goes_on : List NamedTerm → ℕ → Continuation ℕ
+  goes_on named n = meant_continuation (heights_of named r) named (record { items = items_here r after; bound = r.store.now.bound; next = n })
+
+  pub elsewhere_captured : next ≡ r.store.now.next → a ≡ Elsewhere → CapturesGroup r r lists more a after Choice taken
+  elsewhere_captured same is = record {
+    captures =
+        following_captured r after next valid nothing there (omega (arith, same)) Choice a lists more taken
+        (λ named. ap (λ b. entries_here r b after named) is ∙ ap (λ n. PlainEntry (goes_on named n) ∷ []) (sym same)) f;
+    alone = tt;
+  }
+
+  pub catch_captured : (catcher recovery : BindingCell) (ball goal : Term) → next ≡ r.store.now.next → ball ≡ value_term r.store catcher → goal ≡ value_term r.store recovery → a ≡ CatchOf catcher recovery → CapturesGroup r r lists more a after (Catch ball goal) taken
+  catch_captured catcher recovery ball goal same ball_is goal_is is = record {
+    captures =
+        following_captured r after next valid nothing there (omega (arith, same)) (Catch ball goal) a lists more taken
+        (λ named.
+        ap (λ b. entries_here r b after named) is
+        ∙ (ap₂ (λ t u. CatchEntry (resolve r.store.now.bound t) (resolve r.store.now.bound u) (goes_on named r.store.now.next) ∷ []) (sym ball_is) (sym goal_is)
+        ∙ ap (λ n. CatchEntry (resolve r.store.now.bound ball) (resolve r.store.now.bound goal) (goes_on named n) ∷ []) (sym same))) f;
+    alone = one;
+  }
+
+  pub findall_captured : (list : BindingCell) (results : ResultsView) (whole : Term) (terms : Vec Term Global) → next ≡ results.next → r.store.now.next ≤ results.next → whole ≡ value_term r.store list → terms.items ≡ results.terms → a ≡ FindallOf list results
+      → CapturesGroup r r lists more a after (Findall whole terms) taken
+  findall_captured list results whole terms same most whole_is terms_are is = record {
+    captures =
+        following_captured r after next valid nothing there (omega (arith, same, most)) (Findall whole terms) a lists more taken
+        (λ named.
+        ap (λ b. entries_here r b after named) is
+        ∙ (ap₂ (λ t ts. FindallEntry ts (resolve r.store.now.bound t) (goes_on named results.next) ∷ []) (sym whole_is) (sym terms_are)
+        ∙ ap (λ n. FindallEntry terms.items (resolve r.store.now.bound whole) (goes_on named n) ∷ []) (sym same))) f;
+    alone = one;
+  }
+
+-- the newest choice point
+module _ (old r new : RegionView) (c : ChoicePoint) (takes : TakesNewest old r c) (lists more : ItemLists) (choice : CapturedChoice) (group : CapturesGroup r new lists more c.alternatives c.after choice.kind choice.alternatives.items) (mark : ℕ) (under : mark + 1 ≡ length r.choices)
+    (many : length r.store.marks ≡ length r.choices) (below : AreWrittenSince r.store mark choice.below) (next : choice.next ≡ r.store.now.next) where
+  abbrev meant : MeantChoice
+  meant = record { kind = choice.kind; came = bound_at r.store.now; alternatives = group.captures.meant }
+
+  same_count : length r.choices ≡ length new.choices
+  same_count = ap (λ (cs : List ChoicePoint). length cs) (sym group.captures.back.choices)
+
+  captured : (before : List Moment) (m : Moment) → new.store.marks ≡ before ++ m ∷ [] → CapturesChoice more (bound_at m) (length new.choices) choice meant
+  captured before m are =
+      let marks : r.store.marks ≡ before ++ m ∷ [] = sym group.captures.back.marks ∙ are in
+      let long = ap (λ (ms : List Moment). length ms) marks in
+      let made = below m (record { before = before; after = []; are = marks; over = omega (arith, long, many, under, length-append before (m ∷ [])) }) in
+      record {
+        kind = refl;
+        below = subst (λ n. ExtendsBy m.bound r.store.now.bound n (captured_bindings choice.below)) (sym next) made.0;
+        next = sym next;
+        more = let le = made.1 in omega (arith, le, next);
+        alternatives = subst (λ n. AreMeant more r.store.now.bound choice.next n choice.alternatives.items group.captures.meant) same_count (subst (λ n. AreMeant more r.store.now.bound n (length r.choices) choice.alternatives.items group.captures.meant) (sym next) group.captures.are);
+        alone = subst (IsAloneOf choice.kind) (as_long more r.store.now.bound r.store.now.next (length r.choices) choice.alternatives.items group.captures.meant group.captures.are) group.alone;
+      }
+    where
+      as_long : (more : ItemLists) (before : Substitution) (first cut : ℕ) (taken : List CapturedAlternative) (ms : List MeantAlternative) → AreMeant more before first cut taken ms → length taken ≡ length ms
+      as_long more before first cut [] [] k = refl
+      as_long more before first cut [] (m ∷ ms) k = absurd k
+      as_long more before first cut (a ∷ taken) [] k = absurd k
+      as_long more before first cut (a ∷ taken) (m ∷ ms) k = let e = as_long more before first cut taken ms k.1 in omega (arith, e)
+
+  group_is : (named : List NamedTerm) → entries_here r c.alternatives c.after named ≡ group_entries (heights_of named old) named meant
+  group_is named =
+      group.captures.entries named
+      ∙ (append-nil (map (meant_entry choice.kind (heights_of named r) named) group.captures.meant)
+      ∙ same_entries more r.store.now.bound r.store.now.next (length r.choices) choice.kind (heights_of named r) (heights_of named old) named choice.alternatives.items group.captures.meant (takes.heights named) group.captures.are)
+
+  pub newest_captured : CapturesNewest old new lists more choice
+  newest_captured = record {
+    meant = meant;
+    captures = captured;
+    came = ap bound_at (sym group.captures.back.now);
+    marked = takes.marked ∙ ap₂ (λ (ms : List Moment) (m : Moment). ms ++ m ∷ []) (sym group.captures.back.marks) (sym group.captures.back.now);
+    entries = λ named. takes.entries named ∙ ap₂ (λ es fs. es ++ fs) (group_is named) (sym (group.captures.back.entries named));
+    heights = λ named n le. group.captures.back.heights named n (let e = same_count in omega (arith, le, e)) ∙ takes.heights named n (let e = same_count in omega (arith, le, e));
+    newest = c;
+    choices = takes.choices ∙ ap (λ (cs : List ChoicePoint). cs ++ c ∷ []) (sym group.captures.back.choices);
+    text = group.captures.back.text ∙ takes.text;
+    adds = group.captures.adds;
+  }
+
+pub own_on_top : (old r : RegionView) (c : ChoicePoint) → TakesNewest old r c → HasOwnOnTop old → IsEnd c.alternatives → ⊥
+own_on_top old r c takes own = own r.choices c takes.choices

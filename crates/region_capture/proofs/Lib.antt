@@ -1,0 +1,13 @@
+pub mod ItemLemmas
+pub mod MarkLemmas
+pub mod PositionLemmas
+pub mod ComesBackLemmas
+pub mod MeantLemmas
+pub mod ReachedLemmas
+pub mod ClauseLemmas
+pub mod ClausesLemmas
+pub mod SolutionLemmas
+pub mod SolutionsLemmas
+pub mod GroupLemmas
+pub mod ChoiceLemmas
+pub mod CaptureLemmas

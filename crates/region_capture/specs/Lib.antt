@@ -1,0 +1,5 @@
+pub mod CapturedItems
+pub mod CapturedMeanings
+pub mod CapturedChoices
+pub mod CapturedRegions
+pub mod CaptureSteps

@@ -1,0 +1,17 @@
+//! What a region has left, taken off it as written terms: what is left to do at a position, and choice point by choice point
+//! the alternatives that are left, each with the bindings that were made since its choice point came. No binding is followed,
+//! so what is bound is written down once, where it was bound.
+#![tactic(auto)]
+
+mod alternatives;
+mod captured;
+mod clauses;
+mod items;
+mod positions;
+mod regions;
+mod solutions;
+mod writing;
+
+pub use captured::{Captured, CapturedAlternative, CapturedChoice, CapturedKind};
+pub use items::{CapturedItem, CapturedItems};
+pub use regions::capture;
