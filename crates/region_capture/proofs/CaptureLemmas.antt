@@ -1,5 +1,6 @@
 -- A region that is taken off, choice point by choice point.
-use Rattle.std.proofs.Common.{◌≡◌, ℕ, ◌+◌, ◌-◌, ◌<◌, ◌≤◌, List, [], ◌∷◌, ◌++◌, append_assoc, append-nil, length, length-append, drop, take, slice_get, Some, refl, sym, ap, ◌∙◌, subst, arith}
+use Rattle.std.proofs.Common.{◌≡◌, ℕ, ◌+◌, ◌-◌, ◌<◌, ◌≤◌, List, [], ◌∷◌, ◌++◌, append_assoc, append-nil, length, length-append, drop, take, slice_get, Some, refl, sym, ap, ◌∙◌, subst, arith, ◌⊎◌, zero, suc, Bool, true, false, ◌==◌, nat_lt, inl, inr}
+use Rattle.std.proofs.lemmas.Bool.Decides.{nat_tests}
 use Rattle.std.proofs.lemmas.List.{same_from_push, drop-append-le}
 use Rattle.std.proofs.Math.Seq.{take-append_seam}
 use Rattle.au_model.specs.Terms.Each.{Each}
@@ -12,11 +13,14 @@ use Rattle.region_split.specs.Regions.{RegionView, entries_of, heights_of, items
 use Rattle.region_split.specs.declared.choice.ChoicePoint.{ChoicePoint}
 use Rattle.region_split.specs.declared.frame.Position.{Position}
 use Rattle.region_split.proofs.RegionLemmas.{EndsWith, ends_with}
+use Rattle.au_model.proofs.EachLemmas.{each-append, each-more}
+use Rattle.run_model.specs.Machine.Items.{Item, GoalItem, CatchMark, CollectMark, RemovalItem}
+use Rattle.region_capture.proofs.PositionLemmas.{items_marked, later_marks}
 use Rattle.region_capture.specs.CapturedItems.{ItemLists, AddsItems}
-use Rattle.region_capture.specs.CapturedMeanings.{MeansAlternative}
-use Rattle.region_capture.specs.CapturedChoices.{BoundThen, MeantChoice, group_entries, bound_under, CaptureChoices, CapturesChoice, meant_entries, AreHeightsOf}
-use Rattle.region_capture.specs.CapturedRegions.{IsFloor, bound_at, CapturesRegion}
-use Rattle.region_capture.specs.CaptureSteps.{CapturesPosition, CapturesNewest, HasOwnOnTop}
+use Rattle.region_capture.specs.CapturedMeanings.{MeansAlternative, MeantAlternative}
+use Rattle.region_capture.specs.CapturedChoices.{BoundThen, MeantChoice, group_entries, bound_under, CaptureChoices, CapturesChoice, meant_entries, AreHeightsOf, IsGuardOver, MarksGuard, MarkGuards}
+use Rattle.region_capture.specs.CapturedRegions.{IsCaptureFloor, bound_at, CapturesRegion}
+use Rattle.region_capture.specs.CaptureSteps.{CapturesPosition, CapturesNewest, HasOwnOnTop, IsGuarding, IsGuardAt, HasMarkAt, HasMarksAt}
 use Rattle.region_capture.specs.declared.captured.Captured.{Captured}
 use Rattle.region_capture.specs.declared.captured.CapturedChoice.{CapturedChoice}
 use Rattle.region_capture.proofs.ChoiceLemmas.{more_choices, under-append, choices-append, entries-append, heights-append}
@@ -41,9 +45,24 @@ pub record CapturesDownTo (old r : RegionView) (floor : ℕ) (lists : ItemLists)
   pub were : old.choices ≡ r.choices ++ rest
   pub moments : List Moment
   pub marked : old.store.marks ≡ r.store.marks ++ moments
+  pub guards : (over : ℕ) → length r.choices ≤ over → IsGuardAt old.choices over → IsGuardOver (length r.choices) choices over
+  pub marks : Each (λ m. Each (HasMarksAt old.choices) m.alternatives) choices
   pub many : length r.store.marks ≡ length r.choices
   pub high : floor ≤ length r.choices
   pub text : r.text ≡ old.text
+
+-- there is none past the end
+past_end : (cs : List ChoicePoint) (over : ℕ) → length cs ≤ over → IsGuardAt cs over → ⊥
+past_end [] over le g = g
+past_end (c ∷ cs) zero le g = absurd (omega (arith, le))
+past_end (c ∷ cs) (suc over) le g = past_end cs over (omega (arith, le)) g
+
+-- one at the end, and those under it
+guard_at : (cs : List ChoicePoint) (c : ChoicePoint) (rest : List ChoicePoint) (over : ℕ) → over ≡ length cs → IsGuardAt (cs ++ c ∷ rest) over → IsGuarding c.alternatives
+guard_at [] c rest zero e g = g
+guard_at [] c rest (suc over) e g = absurd (omega (arith, e))
+guard_at (d ∷ cs) c rest zero e g = absurd (omega (arith, e))
+guard_at (d ∷ cs) c rest (suc over) e g = guard_at cs c rest over (omega (arith, e)) g
 
 -- none yet
 pub captures_start : (r : RegionView) (floor : ℕ) (lists : ItemLists) → length r.store.marks ≡ length r.choices → floor ≤ length r.choices → CapturesDownTo r r floor lists []
@@ -58,6 +77,8 @@ captures_start r floor lists many high = record {
   were = sym (append-nil r.choices);
   moments = [];
   marked = sym (append-nil r.store.marks);
+  guards = λ over le g. absurd (past_end r.choices over le g);
+  marks = tt;
   many = many;
   high = high;
   text = refl;
@@ -101,6 +122,32 @@ module _ (old r new : RegionView) (floor : ℕ) (some : 1 ≤ floor) (lists more
   parts : (named : List NamedTerm) → entries_of named r ≡ group_entries (heights_of named old) named n.meant ++ entries_of named new
   parts named = n.entries named ∙ ap (λ es. es ++ entries_of named new) (group named)
 
+  whole : old.choices ≡ new.choices ++ n.newest ∷ k.rest
+  whole = k.were ∙ (ap (λ cs. cs ++ k.rest) n.choices ∙ append_assoc new.choices (n.newest ∷ []) k.rest)
+
+  own_marks : Each (HasMarksAt old.choices) n.meant.alternatives
+  own_marks = subst (λ (cs : List ChoicePoint). Each (HasMarksAt cs) n.meant.alternatives) (sym k.were) (each-more (HasMarksAt r.choices) (HasMarksAt (r.choices ++ k.rest)) (λ m. later_marks r.choices k.rest m.items) n.meant.alternatives n.marks)
+
+  now_guards : (over : ℕ) → length new.choices ≤ over → IsGuardAt old.choices over → IsGuardOver (length new.choices) (ms ++ n.meant ∷ []) over
+  now_guards over le g = by_test (over == length new.choices) refl
+    where
+      by_test : (b : Bool) → (over == length new.choices) ≡ b → IsGuardOver (length new.choices) (ms ++ n.meant ∷ []) over
+      by_test true e =
+          let same : over ≡ length new.choices = grind (arith, nat_tests) in
+          record { newer = ms; guard = n.meant; older = []; are = refl; place = omega (arith, same); alone = n.guard (guard_at new.choices n.newest k.rest over same (subst (λ cs. IsGuardAt cs over) whole g)) }
+      by_test false e =
+          let other : over ≡ length new.choices → ⊥ = grind (arith, nat_tests) in
+          let more : length r.choices ≤ over = let l = one_less in omega (arith, le, l, other) in
+          let h = k.guards over more g in
+          record {
+            newer = h.newer;
+            guard = h.guard;
+            older = h.older ++ n.meant ∷ [];
+            are = ap (λ xs. xs ++ n.meant ∷ []) h.are ∙ append_assoc h.newer (h.guard ∷ h.older) (n.meant ∷ []);
+            place = let p = h.place in let l = one_less in omega (arith, p, l, length-append h.older (n.meant ∷ []));
+            alone = h.alone;
+          }
+
   pub captures_next : CapturesDownTo old new floor more (taken ++ c ∷ [])
   captures_next = record {
     choices = ms ++ n.meant ∷ [];
@@ -118,6 +165,8 @@ module _ (old r new : RegionView) (floor : ℕ) (some : 1 ≤ floor) (lists more
     were = k.were ∙ (ap (λ cs. cs ++ k.rest) n.choices ∙ append_assoc new.choices (n.newest ∷ []) k.rest);
     moments = new.store.now ∷ k.moments;
     marked = k.marked ∙ (ap (λ xs. xs ++ k.moments) n.marked ∙ append_assoc new.store.marks (new.store.now ∷ []) k.moments);
+    guards = now_guards;
+    marks = each-append (λ m. Each (HasMarksAt old.choices) m.alternatives) ms (n.meant ∷ []) k.marks (own_marks, tt);
     many = now_many;
     high = let e = one_less in omega (arith, over, e);
     text = n.text ∙ k.text;
@@ -131,14 +180,14 @@ each_in : {X : Type 0} (P : X → Type 0) (xs : List X) (x : X) (ys : List X) �
 each_in P [] x ys k = k.0
 each_in P (y ∷ xs) x ys k = each_in P xs x ys k.1
 
-pub own_there : (old r : RegionView) (floor : ℕ) (lists : ItemLists) (taken : List CapturedChoice) → IsFloor floor old → CapturesDownTo old r floor lists taken → floor < length r.choices → HasOwnOnTop r
+pub own_there : (old r : RegionView) (floor : ℕ) (lists : ItemLists) (taken : List CapturedChoice) → IsCaptureFloor floor old → CapturesDownTo old r floor lists taken → floor < length r.choices → HasOwnOnTop r
 own_there old r floor lists taken f k over cs c is =
     let long : length r.choices ≡ length cs + 1 = ap (λ (xs : List ChoicePoint). length xs) is ∙ length-append cs (c ∷ []) in
     let whole : old.choices ≡ cs ++ c ∷ k.rest = k.were ∙ (ap (λ xs. xs ++ k.rest) is ∙ append_assoc cs (c ∷ []) k.rest) in
     each_in StandsForNoEnd (drop floor cs) c k.rest (subst (Each StandsForNoEnd) (ap (drop floor) whole ∙ drop-append-le floor cs (c ∷ k.rest) (omega (arith, over, long))) f.own)
 
 -- all were taken off
-module _ (old new : RegionView) (floor : ℕ) (p : Position) (none first : ItemLists) (c : Captured) (f : IsFloor floor old) (there : IsPositionIn old p) (many : length old.store.marks ≡ length old.choices) (mark : ℕ) (at : mark + 1 ≡ length old.choices)
+module _ (old new : RegionView) (floor : ℕ) (p : Position) (none first : ItemLists) (c : Captured) (f : IsCaptureFloor floor old) (there : IsPositionIn old p) (many : length old.store.marks ≡ length old.choices) (mark : ℕ) (at : mark + 1 ≡ length old.choices)
     (current : CapturesPosition old mark p none first c.current) (adds : AddsItems first c.items) (k : CapturesDownTo old new floor c.items c.choices.items) (low : length new.choices ≤ floor) where
   same : length new.choices ≡ floor
   same = let h = k.high in omega (arith, low, h)
@@ -167,6 +216,24 @@ module _ (old new : RegionView) (floor : ℕ) (p : Position) (none first : ItemL
       ap (λ (xs : List Moment). slice_get xs (floor - 1)) k.marked
       ∙ got_still new.store.marks k.moments (floor - 1) start.last (ap (λ (xs : List Moment). slice_get xs (floor - 1)) start.is ∙ (ap (slice_get (start.before ++ start.last ∷ [])) (sym place) ∙ got_next start.before [] start.last))
 
+  guarded : (over : ℕ) → IsGuardAt old.choices over → (over < floor) ⊎ IsGuardOver floor k.choices over
+  guarded over g = by_test (nat_lt over floor) refl
+    where
+      by_test : (b : Bool) → nat_lt over floor ≡ b → (over < floor) ⊎ IsGuardOver floor k.choices over
+      by_test true e = inl (grind (arith, nat_tests))
+      by_test false e =
+          let le : floor ≤ over = grind (arith, nat_tests) in
+          inr (subst (λ n. IsGuardOver n k.choices over) same (k.guards over (let s = same in omega (arith, le, s)) g))
+
+  marks_guard : (i : Item ℕ) → HasMarkAt old.choices i → MarksGuard floor k.choices i
+  marks_guard (GoalItem t c) m = tt
+  marks_guard (CatchMark over) m = guarded over m
+  marks_guard (CollectMark t over) m = guarded over m
+  marks_guard (RemovalItem number) m = tt
+
+  alternative_marks : (a : MeantAlternative) → HasMarksAt old.choices a → MarkGuards floor k.choices a
+  alternative_marks a m = each-more (HasMarkAt old.choices) (MarksGuard floor k.choices) marks_guard a.items m
+
   pub region_captured : CapturesRegion old new floor p c
   region_captured = record {
     start = start.last;
@@ -179,6 +246,8 @@ module _ (old new : RegionView) (floor : ℕ) (p : Position) (none first : ItemL
     captured = subst (λ n. CaptureChoices c.items (bound_at start.last) n c.choices.items k.choices) same (k.captured start.last (start.before, start.is));
     entries = k.entries;
     heights = λ named. subst (λ n. AreHeightsOf (heights_of named old) named n (length (entries_of named new)) k.choices) same (k.heights named);
+    marks = alternative_marks (left_at old p) (items_marked old (length old.choices) p there);
+    choice_marks = each-more (λ m. Each (HasMarksAt old.choices) m.alternatives) (λ m. Each (MarkGuards floor k.choices) m.alternatives) (λ m h. each-more (HasMarksAt old.choices) (MarkGuards floor k.choices) alternative_marks m.alternatives h) k.choices k.marks;
     below = λ named n le. k.below named n (let h = k.high in omega (arith, le, h));
     left = sym (ap (take floor) k.were ∙ (ap (λ n. take n (new.choices ++ k.rest)) (sym same) ∙ take-append_seam new.choices k.rest));
     text = k.text;

@@ -16,6 +16,7 @@ more_choice lists more under cut c m adds k = record {
   more = k.more;
   alternatives = more_meant lists m.came.bound c.next cut more c.alternatives.items m.alternatives adds k.alternatives;
   alone = k.alone;
+  terms = k.terms;
 }
 
 pub more_choices : (lists more : ItemLists) (start : BoundThen) (cut : ℕ) (cs : List CapturedChoice) (ms : List MeantChoice) → AddsItems lists more → CaptureChoices lists start cut cs ms → CaptureChoices more start cut cs ms

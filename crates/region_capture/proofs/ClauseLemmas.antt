@@ -100,7 +100,7 @@ module _ (r r1 r2 r3 : RegionView) (t : Trial) (cut : ℕ) (c : ChoicePoint) (ma
   pub clause_captured : (lists more : ItemLists) (o : Option CapturedAlternative) → CapturesReached r2 cut reached lists more o → CapturesClause r r3 lists more t o
   clause_captured lists more o captured = record {
     captures = λ left.
-        reached_captures r r2 r3 cut count many (marked_still r r1 r2 r3 Elsewhere t.after c many adds kept.stands same_choices same_marks same_text takes)
+        reached_captures r r2 r3 cut count many (marked_still r r1 r2 r3 Elsewhere t.after c many adds kept.stands same_choices same_marks same_text takes) adds.choice (same_choices ∙ ap (λ (x : RegionView). x.choices) adds.others)
         (heights_then r r1 r2 r3 Elsewhere t.after c many adds kept.stands same_choices same_marks same_text takes) back own (clause_entries_here r3 t.goal t.after left) (clause_entries_here r t.goal t.after (t.clause ∷ left)) (whole left)
         reached o lists more tried.position tried_entries captured;
     goal = subst (λ (st : StoreView). IsValueIn st t.goal) (sym store) goal;

@@ -1,36 +1,41 @@
 -- Choice points that were taken off, and written down.
-use Rattle.std.proofs.Common.{◌≡◌, ℕ, Vec, ◌+◌, ◌≤◌, List, [], ◌∷◌, ◌++◌, append-nil, length, length-append, map, refl, sym, ap, ap₂, ◌∙◌, subst, arith}
+use Rattle.std.proofs.Common.{◌≡◌, ℕ, Vec, ◌+◌, ◌≤◌, List, [], ◌∷◌, ◌++◌, append-nil, length, length-append, map, refl, sym, ap, ap₂, ◌∙◌, subst, arith, inl, inr}
+use Rattle.std.proofs.lemmas.List.{same_from_push}
 use Rattle.std.specs.Global.{Global}
-use Rattle.au_term.specs.Term.{Term}
+use Rattle.au_term.specs.Term.{Term, var_bound}
 use Rattle.au_model.specs.Terms.Named.{NamedTerm}
 use Rattle.au_model.specs.Terms.Substitutions.{Substitution, resolve}
 use Rattle.au_model.proofs.EachLemmas.{each-more}
 use Rattle.run_model.specs.Machine.Items.{Item, GoalItem, CatchMark, CollectMark, RemovalItem, Continuation}
 use Rattle.run_model.specs.Machine.Entries.{PlainEntry, CatchEntry, FindallEntry}
 use Rattle.binding_array.specs.declared.cell.BindingCell.{BindingCell}
-use Rattle.cell_store.specs.StoreView.{Moment, IsValidStore, value_term}
+use Rattle.cell_store.specs.StoreView.{Moment, IsValidStore, value_term, IsValueIn, text_in}
 use Rattle.branch_bindings.specs.Extensions.{ExtendsBy}
 use Rattle.branch_bindings.specs.ExtensionLaws.{NothingExtends}
 use Rattle.region_split.specs.QueryEnds.{IsEnd}
-use Rattle.region_split.specs.Regions.{RegionView, heights_of, items_here, IsPositionIn}
+use Rattle.region_split.specs.Regions.{RegionView, heights_of, items_here, IsPositionIn, AreAlternativesIn}
 use Rattle.region_split.specs.StackOperations.{TakesNewest}
 use Rattle.region_split.specs.ResultLists.{ResultsView}
 use Rattle.region_split.specs.declared.choice.Alternatives.{Alternatives}
-use Rattle.region_split.specs.declared.choice.Alternatives.TheVariants.{Elsewhere, Catch as CatchOf, Findall as FindallOf}
+use Rattle.region_split.specs.declared.choice.Alternatives.TheVariants.{Elsewhere, Catch as CatchOf, Findall as FindallOf, Clauses, Solutions}
 use Rattle.region_split.specs.declared.choice.ChoicePoint.{ChoicePoint}
 use Rattle.region_split.specs.declared.frame.Position.{Position}
+use Rattle.cell_store.proofs.CellMeaningLemmas.{term_below}
+use Rattle.clause_index.specs.declared.cursor.Cursor.{Cursor}
+use Rattle.region_split.specs.Solutions.{SolutionView}
+use Rattle.au_model.specs.Terms.Each.{Each}
 use Rattle.region_capture.specs.CapturedItems.{ItemLists, IsItemOver}
 use Rattle.region_capture.specs.CapturedMeanings.{MeantAlternative, MeansAlternative, AreMeant, meant_entry, meant_continuation, captured_bindings}
 use Rattle.region_capture.specs.CapturedChoices.{MeantChoice, group_entries, IsAloneOf, CapturesChoice}
 use Rattle.region_capture.specs.CapturedRegions.{bound_at}
-use Rattle.region_capture.specs.CaptureSteps.{AreWrittenSince, CapturesFollowing, CapturesUpTo, CapturesGroup, CapturesNewest, HasOwnOnTop, entries_here, no_entries}
+use Rattle.region_capture.specs.CaptureSteps.{AreWrittenSince, CapturesFollowing, CapturesUpTo, CapturesGroup, CapturesNewest, HasOwnOnTop, entries_here, no_entries, IsGuarding, HasMarksAt}
 use Rattle.region_capture.specs.declared.captured.CapturedAlternative.{CapturedAlternative}
 use Rattle.region_capture.specs.declared.captured.CapturedChoice.{CapturedChoice}
 use Rattle.region_capture.specs.declared.captured.CapturedKind.{CapturedKind}
 use Rattle.region_capture.specs.declared.captured.CapturedKind.TheVariants.{Choice, Catch, Findall}
 use Rattle.region_capture.proofs.ComesBackLemmas.{stays_there}
 use Rattle.region_capture.proofs.MeantLemmas.{same_entries}
-use Rattle.region_capture.proofs.PositionLemmas.{items_over}
+use Rattle.region_capture.proofs.PositionLemmas.{items_over, items_marked, later_marks}
 
 -- with more variables
 wider : (next more cut : ℕ) → next ≤ more → (i : Item ℕ) → IsItemOver next cut i → IsItemOver more cut i
@@ -58,6 +63,7 @@ module _ (r : RegionView) (after : Position) (next : ℕ) (valid : IsValidStore 
       } in
       record {
         meant = following ∷ [];
+        marked = (items_marked r (length r.choices) after there, tt);
         are = subst (λ cs. AreMeant more r.store.now.bound r.store.now.next (length r.choices) cs (following ∷ [])) (sym f.is) (means, tt);
         entries = is;
         adds = f.adds;
@@ -65,9 +71,16 @@ module _ (r : RegionView) (after : Position) (next : ℕ) (valid : IsValidStore 
       }
 
 -- what goes on elsewhere, a catch, and a findall
-module _ (r : RegionView) (after : Position) (next : ℕ) (valid : IsValidStore r.store) (nothing : NothingExtends) (there : IsPositionIn r after) (lists more : ItemLists) (a : Alternatives) (taken : List CapturedAlternative) (f : CapturesFollowing r lists more after next taken) where
+module _ (r : RegionView) (after : Position) (next : ℕ) (valid : IsValidStore r.store) (nothing : NothingExtends) (there : IsPositionIn r after) (lists more : ItemLists) (a : Alternatives) (values : AreAlternativesIn r a)
+    (taken : List CapturedAlternative) (f : CapturesFollowing r lists more after next taken) where
   one : length taken ≡ 1
   one = ap (λ (cs : List CapturedAlternative). length cs) f.is
+
+  same_next : (x : CapturedAlternative) → taken ≡ x ∷ [] → x.next ≡ next
+  same_next x is = ap (λ (y : CapturedAlternative). y.next) (same_from_push [] [] x f.alternative (sym is ∙ f.is)).1 ∙ f.next_is
+
+  value_below : (value : BindingCell) (t : Term) (most : ℕ) → IsValueIn r.store value → t ≡ value_term r.store value → r.store.now.next ≤ most → var_bound t ≤ most
+  value_below value t most v is le = let b = term_below (text_in r.store) r.store.now.next value v in let e = ap var_bound is in omega (arith, b, e, le)
 
   abbrev goes_on : List NamedTerm → ℕ → Continuation ℕ
   goes_on named n = meant_continuation (heights_of named r) named (record { items = items_here r after; bound = r.store.now.bound; next = n })
@@ -78,6 +91,8 @@ module _ (r : RegionView) (after : Position) (next : ℕ) (valid : IsValidStore 
         following_captured r after next valid nothing there (omega (arith, same)) Choice a lists more taken
         (λ named. ap (λ b. entries_here r b after named) is ∙ ap (λ n. PlainEntry (goes_on named n) ∷ []) (sym same)) f;
     alone = tt;
+    guard = λ g. one;
+    terms = λ x e. tt;
   }
 
   pub catch_captured : (catcher recovery : BindingCell) (ball goal : Term) → next ≡ r.store.now.next → ball ≡ value_term r.store catcher → goal ≡ value_term r.store recovery → a ≡ CatchOf catcher recovery → CapturesGroup r r lists more a after (Catch ball goal) taken
@@ -89,19 +104,37 @@ module _ (r : RegionView) (after : Position) (next : ℕ) (valid : IsValidStore 
         ∙ (ap₂ (λ t u. CatchEntry (resolve r.store.now.bound t) (resolve r.store.now.bound u) (goes_on named r.store.now.next) ∷ []) (sym ball_is) (sym goal_is)
         ∙ ap (λ n. CatchEntry (resolve r.store.now.bound ball) (resolve r.store.now.bound goal) (goes_on named n) ∷ []) (sym same))) f;
     alone = one;
+    guard = λ g. one;
+    terms = λ x e.
+        let most : r.store.now.next ≤ x.next = let n = same_next x e in omega (arith, n, same) in
+        let v = subst (AreAlternativesIn r) is values in
+        (value_below catcher ball x.next v.0 ball_is most, value_below recovery goal x.next v.1 goal_is most);
   }
 
-  pub findall_captured : (list : BindingCell) (results : ResultsView) (whole : Term) (terms : Vec Term Global) → next ≡ results.next → r.store.now.next ≤ results.next → whole ≡ value_term r.store list → terms.items ≡ results.terms → a ≡ FindallOf list results
+  pub findall_captured : (list : BindingCell) (results : ResultsView) (whole : Term) (terms : Vec Term Global) → next ≡ results.next → whole ≡ value_term r.store list → terms.items ≡ results.terms → a ≡ FindallOf list results
       → CapturesGroup r r lists more a after (Findall whole terms) taken
-  findall_captured list results whole terms same most whole_is terms_are is = record {
-    captures =
-        following_captured r after next valid nothing there (omega (arith, same, most)) (Findall whole terms) a lists more taken
-        (λ named.
-        ap (λ b. entries_here r b after named) is
-        ∙ (ap₂ (λ t ts. FindallEntry ts (resolve r.store.now.bound t) (goes_on named results.next) ∷ []) (sym whole_is) (sym terms_are)
-        ∙ ap (λ n. FindallEntry terms.items (resolve r.store.now.bound whole) (goes_on named n) ∷ []) (sym same))) f;
-    alone = one;
-  }
+  findall_captured list results whole terms same whole_is terms_are is =
+      let v = subst (AreAlternativesIn r) is values in
+      let most : r.store.now.next ≤ results.next = v.1.next in
+      record {
+        captures =
+            following_captured r after next valid nothing there (omega (arith, same, most)) (Findall whole terms) a lists more taken
+            (λ named.
+            ap (λ b. entries_here r b after named) is
+            ∙ (ap₂ (λ t ts. FindallEntry ts (resolve r.store.now.bound t) (goes_on named results.next) ∷ []) (sym whole_is) (sym terms_are)
+            ∙ ap (λ n. FindallEntry terms.items (resolve r.store.now.bound whole) (goes_on named n) ∷ []) (sym same))) f;
+        alone = one;
+        guard = λ g. one;
+        terms = λ x e.
+            let n : x.next ≡ results.next = same_next x e ∙ same in
+            (value_below list whole x.next v.0 whole_is (omega (arith, n, most)), subst (λ y. Each (λ t. var_bound t ≤ y) terms.items) (sym n) (subst (Each (λ t. var_bound t ≤ results.next)) (sym terms_are) v.1.below));
+      }
+
+as_long : (more : ItemLists) (before : Substitution) (first cut : ℕ) (taken : List CapturedAlternative) (ms : List MeantAlternative) → AreMeant more before first cut taken ms → length taken ≡ length ms
+as_long more before first cut [] [] k = refl
+as_long more before first cut [] (m ∷ ms) k = absurd k
+as_long more before first cut (a ∷ taken) [] k = absurd k
+as_long more before first cut (a ∷ taken) (m ∷ ms) k = let e = as_long more before first cut taken ms k.1 in omega (arith, e)
 
 -- the newest choice point
 module _ (old r new : RegionView) (c : ChoicePoint) (takes : TakesNewest old r c) (lists more : ItemLists) (choice : CapturedChoice) (group : CapturesGroup r new lists more c.alternatives c.after choice.kind choice.alternatives.items) (mark : ℕ) (under : mark + 1 ≡ length r.choices)
@@ -123,14 +156,9 @@ module _ (old r new : RegionView) (c : ChoicePoint) (takes : TakesNewest old r c
         next = sym next;
         more = let le = made.1 in omega (arith, le, next);
         alternatives = subst (λ n. AreMeant more r.store.now.bound choice.next n choice.alternatives.items group.captures.meant) same_count (subst (λ n. AreMeant more r.store.now.bound n (length r.choices) choice.alternatives.items group.captures.meant) (sym next) group.captures.are);
+        terms = group.terms;
         alone = subst (IsAloneOf choice.kind) (as_long more r.store.now.bound r.store.now.next (length r.choices) choice.alternatives.items group.captures.meant group.captures.are) group.alone;
       }
-    where
-      as_long : (more : ItemLists) (before : Substitution) (first cut : ℕ) (taken : List CapturedAlternative) (ms : List MeantAlternative) → AreMeant more before first cut taken ms → length taken ≡ length ms
-      as_long more before first cut [] [] k = refl
-      as_long more before first cut [] (m ∷ ms) k = absurd k
-      as_long more before first cut (a ∷ taken) [] k = absurd k
-      as_long more before first cut (a ∷ taken) (m ∷ ms) k = let e = as_long more before first cut taken ms k.1 in omega (arith, e)
 
   group_is : (named : List NamedTerm) → entries_here r c.alternatives c.after named ≡ group_entries (heights_of named old) named meant
   group_is named =
@@ -147,6 +175,8 @@ module _ (old r new : RegionView) (c : ChoicePoint) (takes : TakesNewest old r c
     entries = λ named. takes.entries named ∙ ap₂ (λ es fs. es ++ fs) (group_is named) (sym (group.captures.back.entries named));
     heights = λ named n le. group.captures.back.heights named n (let e = same_count in omega (arith, le, e)) ∙ takes.heights named n (let e = same_count in omega (arith, le, e));
     newest = c;
+    guard = λ g. sym (as_long more r.store.now.bound r.store.now.next (length r.choices) choice.alternatives.items group.captures.meant group.captures.are) ∙ group.guard g;
+    marks = subst (λ (cs : List ChoicePoint). Each (HasMarksAt cs) group.captures.meant) (sym takes.choices) (each-more (HasMarksAt r.choices) (HasMarksAt (r.choices ++ c ∷ [])) (λ m. later_marks r.choices (c ∷ []) m.items) group.captures.meant group.captures.marked);
     choices = takes.choices ∙ ap (λ (cs : List ChoicePoint). cs ++ c ∷ []) (sym group.captures.back.choices);
     text = group.captures.back.text ∙ takes.text;
     adds = group.captures.adds;

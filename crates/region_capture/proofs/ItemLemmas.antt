@@ -2,7 +2,7 @@
 use Rattle.std.proofs.Common.{◌≡◌, ℕ, zero, suc, ◌+◌, ◌<◌, List, [], ◌∷◌, ◌++◌, append_assoc, append-nil, length, length-append, get_or, slice_get, Option, Some, refl, sym, ap, ◌∙◌, subst, arith}
 use Rattle.std.proofs.lemmas.Option.{slice_get-get_or, slice_get_within}
 use Rattle.run_model.specs.Machine.Items.{Item}
-use Rattle.region_capture.specs.CapturedItems.{ItemLists, captured_item, linked_over, linked_items, AreLinkedFrom, HasItems, HasItemBefore, AddsItems}
+use Rattle.region_capture.specs.CapturedItems.{ItemLists, captured_item, linked_over, linked_items, AreItemLinksFrom, HasItems, HasItemBefore, AddsItems}
 use Rattle.region_capture.specs.declared.items.ItemLink.{ItemLink}
 
 -- a place of a list that others come behind
@@ -44,7 +44,7 @@ pub length-linked : (lists : ItemLists) (links : List ItemLink) → length (link
 length-linked lists [] = omega arith
 length-linked lists (l ∷ links) = let e = length-linked (lists ++ own lists l ∷ []) links in omega (arith, e, length-append lists (own lists l ∷ []))
 
-pub from-append : (n : ℕ) (links : List ItemLink) (l : ItemLink) → AreLinkedFrom n links → l.after < n + length links → AreLinkedFrom n (links ++ l ∷ [])
+pub from-append : (n : ℕ) (links : List ItemLink) (l : ItemLink) → AreItemLinksFrom n links → l.after < n + length links → AreItemLinksFrom n (links ++ l ∷ [])
 from-append n [] l k lt = (omega (arith, lt), tt)
 from-append n (m ∷ links) l k lt = (k.0, from-append (n + 1) links l k.1 (omega (arith, lt)))
 
@@ -64,7 +64,7 @@ own_before lists l lt = record {
 before_kept : (old new : ItemLists) (number after : ℕ) (item : Item ℕ) → AddsItems old new → HasItemBefore old number item after → HasItemBefore new number item after
 before_kept old new number after item a h = record { smaller = h.smaller; rest = h.rest; follows = items_kept old new after h.rest a h.follows; items = items_kept old new number (item ∷ h.rest) a h.items }
 
-pub linked_before : (lists : ItemLists) (links : List ItemLink) (i number : ℕ) (l : ItemLink) → AreLinkedFrom (length lists) links → i < length links → l ≡ get_or links i l → number ≡ length lists + i → HasItemBefore (linked_over lists links) number (captured_item l.item) l.after
+pub linked_before : (lists : ItemLists) (links : List ItemLink) (i number : ℕ) (l : ItemLink) → AreItemLinksFrom (length lists) links → i < length links → l ≡ get_or links i l → number ≡ length lists + i → HasItemBefore (linked_over lists links) number (captured_item l.item) l.after
 linked_before lists [] i number l k lt e n = absurd (omega (arith, lt))
 linked_before lists (m ∷ links) zero number l k lt e n =
     subst (λ (x : ItemLink). HasItemBefore (linked_over lists (m ∷ links)) number (captured_item x.item) x.after) (sym e)
@@ -72,7 +72,7 @@ linked_before lists (m ∷ links) zero number l k lt e n =
     (before_kept (lists ++ own lists m ∷ []) (linked_over lists (m ∷ links)) (length lists) m.after (captured_item m.item) (more_linked (lists ++ own lists m ∷ []) links) (own_before lists m k.0)))
 linked_before lists (m ∷ links) (suc i) number l k lt e n =
     let long : length (lists ++ own lists m ∷ []) ≡ length lists + 1 = length-append lists (own lists m ∷ []) in
-    linked_before (lists ++ own lists m ∷ []) links i number l (subst (λ x. AreLinkedFrom x links) (sym long) k.1) (omega (arith, lt)) e (omega (arith, n, long))
+    linked_before (lists ++ own lists m ∷ []) links i number l (subst (λ x. AreItemLinksFrom x links) (sym long) k.1) (omega (arith, lt)) e (omega (arith, n, long))
 
 -- a link at the end
 pub pushed_before : (links : List ItemLink) (l : ItemLink) (number : ℕ) → l.after < length (linked_items links) → number ≡ length links + 1 → HasItemBefore (linked_items (links ++ l ∷ [])) number (captured_item l.item) l.after
@@ -84,7 +84,7 @@ pushed_before links l number lt n =
 pub pushed_adds : (links : List ItemLink) (l : ItemLink) → AddsItems (linked_items links) (linked_items (links ++ l ∷ []))
 pushed_adds links l = record { more = own (linked_items links) l ∷ []; are = linked-append ([] ∷ []) links l }
 
-pub pushed_linked : (links : List ItemLink) (l : ItemLink) → AreLinkedFrom 1 links → l.after < length (linked_items links) → AreLinkedFrom 1 (links ++ l ∷ [])
+pub pushed_linked : (links : List ItemLink) (l : ItemLink) → AreItemLinksFrom 1 links → l.after < length (linked_items links) → AreItemLinksFrom 1 (links ++ l ∷ [])
 pushed_linked links l k lt = from-append 1 links l k (let e = length-linked ([] ∷ []) links in omega (arith, e, lt))
 
 -- a number has one list

@@ -2,6 +2,7 @@
 use Rattle.std.proofs.Common.{◌≡◌, ℕ, ◌≤◌, List, [], ◌∷◌, ◌++◌, append_assoc, length, map, refl, sym, ap, ap₂, ◌∙◌, subst, arith}
 use Rattle.std.proofs.lemmas.List.{map-append}
 use Rattle.au_model.specs.Terms.Each.{Each}
+use Rattle.au_model.proofs.EachLemmas.{each-append}
 use Rattle.au_model.specs.Terms.Named.{NamedTerm}
 use Rattle.au_model.specs.Terms.Substitutions.{Substitution, resolve}
 use Rattle.run_model.specs.Machine.Items.{Item, GoalItem, CatchMark, CollectMark, RemovalItem, resolve_continuation}
@@ -12,7 +13,7 @@ use Rattle.region_split.specs.Regions.{RegionView, heights_of}
 use Rattle.region_split.specs.declared.choice.ChoicePoint.{ChoicePoint}
 use Rattle.region_capture.specs.CapturedItems.{ItemLists, AddsItems, IsItemOver}
 use Rattle.region_capture.specs.CapturedMeanings.{MeantAlternative, meant_continuation, meant_entry, AreMeant}
-use Rattle.region_capture.specs.CaptureSteps.{CapturesUpTo}
+use Rattle.region_capture.specs.CaptureSteps.{CapturesUpTo, HasMarksAt}
 use Rattle.region_capture.specs.declared.captured.CapturedAlternative.{CapturedAlternative}
 use Rattle.region_capture.specs.declared.captured.CapturedKind.{CapturedKind}
 use Rattle.region_capture.specs.declared.captured.CapturedKind.TheVariants.{Choice, Catch, Findall}
@@ -78,13 +79,14 @@ captures_on kind a b c l1 l2 l3 all mid left taken others p q =
           ∙ (ap (λ es. map (meant_entry kind (heights_of named a) named) p.meant ++ es) (q.entries named ∙ ap (λ es. es ++ left named) (same_entries l3 a.store.now.bound a.store.now.next (length a.choices) kind (heights_of named b) (heights_of named a) named others q.meant (p.back.heights named) own))
           ∙ (sym (append_assoc (map (meant_entry kind (heights_of named a) named) p.meant) (map (meant_entry kind (heights_of named a) named) q.meant) (left named))
           ∙ ap (λ es. es ++ left named) (sym (map-append (meant_entry kind (heights_of named a) named) p.meant q.meant))));
+      marked = each-append (HasMarksAt a.choices) p.meant q.meant p.marked (subst (λ (cs : List ChoicePoint). Each (HasMarksAt cs) q.meant) p.back.choices q.marked);
       adds = added_twice l1 l2 l3 p.adds q.adds;
       back = comes_back_twice a b c p.back q.back;
     }
 
 -- nothing was written down yet
 pub captures_none : (kind : CapturedKind) (r : RegionView) (lists : ItemLists) (all : List NamedTerm → List Entry) → CapturesUpTo kind r r lists lists all all []
-captures_none kind r lists all = record { meant = []; are = tt; entries = λ named. refl; adds = nothing_added lists; back = stays_there r }
+captures_none kind r lists all = record { meant = []; are = tt; entries = λ named. refl; marked = tt; adds = nothing_added lists; back = stays_there r }
 
 -- what is left is said in another way
 pub left_otherwise : (kind : CapturedKind) (a b : RegionView) (lists more : ItemLists) (all left others : List NamedTerm → List Entry) (taken : List CapturedAlternative) → ((named : List NamedTerm) → left named ≡ others named)
@@ -93,6 +95,7 @@ left_otherwise kind a b lists more all left others taken same p = record {
   meant = p.meant;
   are = p.are;
   entries = λ named. p.entries named ∙ ap (λ es. map (meant_entry kind (heights_of named a) named) p.meant ++ es) (same named);
+  marked = p.marked;
   adds = p.adds;
   back = p.back;
 }

@@ -58,7 +58,7 @@ module _ (r r1 r2 r3 : RegionView) (solution : SolutionView) (left : List Soluti
   solution_captured lists more o others captured is = record {
     same = let e : ◌≡◌ {A = Alternatives} (Solutions others) (Solutions left) = sym is ∙ kept in cc;
     captures =
-        reached_captures r r2 r3 cut count many (marked_still r r1 r2 r3 rest after c many adds tried.stands tried.choices tried.marks tried.text takes)
+        reached_captures r r2 r3 cut count many (marked_still r r1 r2 r3 rest after c many adds tried.stands tried.choices tried.marks tried.text takes) adds.choice (tried.choices ∙ ap (λ (x : RegionView). x.choices) adds.others)
         (heights_then r r1 r2 r3 rest after c many adds tried.stands tried.choices tried.marks tried.text takes) back own (entries_here r3 rest after) (entries_here r (Solutions (solution ∷ left)) after)
         (λ named. ap (λ es. own named ++ es) (sym (same_left named))) reached o lists more tried.position tried_entries captured;
     there = subst (AreAlternativesIn r3) kept takes.alternatives;

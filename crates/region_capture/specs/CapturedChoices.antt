@@ -1,12 +1,15 @@
 -- What choice points that were taken off a region stand for.
-use Rattle.std.specs.Prelude.{◌≡◌, ℕ, ◌+◌, ◌≤◌, List, [], ◌∷◌, ◌++◌, length, map}
+use Rattle.std.specs.Prelude.{◌≡◌, ◌⊎◌, ℕ, ◌+◌, ◌<◌, ◌≤◌, List, [], ◌∷◌, ◌++◌, length, map}
+use Rattle.au_model.specs.Terms.Each.{Each}
 use Rattle.au_model.specs.Terms.Named.{NamedTerm}
 use Rattle.au_model.specs.Terms.Substitutions.{Substitution}
 use Rattle.run_model.specs.Machine.Entries.{Entry}
+use Rattle.run_model.specs.Machine.Items.{Item, GoalItem, CatchMark, CollectMark, RemovalItem}
 use Rattle.region_split.specs.ChoicePoints.{height_of_cut}
 use Rattle.branch_bindings.specs.Extensions.{ExtendsBy}
 use Rattle.region_capture.specs.CapturedItems.{ItemLists}
-use Rattle.region_capture.specs.CapturedMeanings.{captured_bindings, MeantAlternative, meant_entry, AreMeant}
+use Rattle.region_capture.specs.CapturedMeanings.{captured_bindings, MeantAlternative, meant_entry, AreMeant, IsKindBelow}
+use Rattle.region_capture.specs.declared.captured.CapturedAlternative.{CapturedAlternative}
 use Rattle.region_capture.specs.declared.captured.CapturedChoice.{CapturedChoice}
 use Rattle.region_capture.specs.declared.captured.CapturedKind.{CapturedKind}
 use Rattle.region_capture.specs.declared.captured.CapturedKind.TheVariants.{Choice, Catch, Findall}
@@ -39,6 +42,7 @@ pub record CapturesChoice (lists : ItemLists) (under : BoundThen) (cut : ℕ) (c
   pub more : under.next ≤ c.next
   pub alternatives : AreMeant lists m.came.bound c.next cut c.alternatives.items m.alternatives
   pub alone : IsAloneOf m.kind (length m.alternatives)
+  pub terms : (a : CapturedAlternative) → c.alternatives.items ≡ a ∷ [] → IsKindBelow a.next m.kind
 
 -- what was bound when the newest came, or at the start
 abbrev pub bound_under : BoundThen → List MeantChoice → BoundThen
@@ -62,3 +66,22 @@ abbrev pub AreHeightsOf : List ℕ → List NamedTerm → ℕ → ℕ → List M
 AreHeightsOf heights named cut others [] = height_of_cut heights cut ≡ others
 AreHeightsOf heights named cut others (m ∷ ms) =
     (height_of_cut heights (cut + length (m ∷ ms)) ≡ length (meant_entries heights named (m ∷ ms)) + others) × AreHeightsOf heights named cut others ms
+
+-- the one that is over so many choice points has one alternative, where these are over so many others
+pub record IsGuardOver (cut : ℕ) (ms : List MeantChoice) (over : ℕ) : Type 0 where
+  pub newer : List MeantChoice
+  pub guard : MeantChoice
+  pub older : List MeantChoice
+  pub are : ms ≡ newer ++ guard ∷ older
+  pub place : over ≡ cut + length older
+  pub alone : length guard.alternatives ≡ 1
+
+-- an item that marks such a one, or one of the others, if any
+abbrev pub MarksGuard : ℕ → List MeantChoice → Item ℕ → Type 0
+MarksGuard cut ms (GoalItem t c) = Unit {0}
+MarksGuard cut ms (CatchMark over) = (over < cut) ⊎ IsGuardOver cut ms over
+MarksGuard cut ms (CollectMark t over) = (over < cut) ⊎ IsGuardOver cut ms over
+MarksGuard cut ms (RemovalItem number) = Unit {0}
+
+abbrev pub MarkGuards : ℕ → List MeantChoice → MeantAlternative → Type 0
+MarkGuards cut ms a = Each (MarksGuard cut ms) a.items

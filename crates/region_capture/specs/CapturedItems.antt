@@ -27,9 +27,9 @@ abbrev pub linked_items : List ItemLink → ItemLists
 linked_items links = linked_over ([] ∷ []) links
 
 -- each goes on with a smaller number, the first of them being this one
-abbrev pub AreLinkedFrom : ℕ → List ItemLink → Type 0
-AreLinkedFrom n [] = Unit {0}
-AreLinkedFrom n (l ∷ links) = (l.after < n) × AreLinkedFrom (n + 1) links
+abbrev pub AreItemLinksFrom : ℕ → List ItemLink → Type 0
+AreItemLinksFrom n [] = Unit {0}
+AreItemLinksFrom n (l ∷ links) = (l.after < n) × AreItemLinksFrom (n + 1) links
 
 -- items are those that a number has
 abbrev pub HasItems : ItemLists → ℕ → List (Item ℕ) → Type 0

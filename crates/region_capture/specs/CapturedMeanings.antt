@@ -1,5 +1,6 @@
 -- What an alternative that was taken off a region goes on with.
 use Rattle.std.specs.Prelude.{◌≡◌, ℕ, ◌≤◌, List, [], ◌∷◌, map}
+use Rattle.au_term.specs.Term.{var_bound}
 use Rattle.au_term.specs.declared.segment.Binding.{Binding}
 use Rattle.au_model.specs.Terms.Each.{Each}
 use Rattle.au_model.specs.Terms.Named.{NamedTerm}
@@ -32,6 +33,12 @@ abbrev pub meant_entry : CapturedKind → List ℕ → List NamedTerm → MeantA
 meant_entry Choice heights named a = PlainEntry (meant_continuation heights named a)
 meant_entry (Catch catcher recovery) heights named a = CatchEntry (resolve a.bound catcher) (resolve a.bound recovery) (meant_continuation heights named a)
 meant_entry (Findall list results) heights named a = FindallEntry results.items (resolve a.bound list) (meant_continuation heights named a)
+
+-- the variables of what a catch or a findall has are below a number
+abbrev pub IsKindBelow : ℕ → CapturedKind → Type 0
+IsKindBelow next Choice = Unit {0}
+IsKindBelow next (Catch catcher recovery) = (var_bound catcher ≤ next) × (var_bound recovery ≤ next)
+IsKindBelow next (Findall list results) = (var_bound list ≤ next) × Each (λ t. var_bound t ≤ next) results.items
 
 -- an alternative goes on with this over so many choice points: what is bound was made of what was bound at one moment, with so many
 -- variables, by its bindings

@@ -9,11 +9,11 @@ use Rattle.region_split.specs.QueryEnds.{StandsForNoEnd}
 use Rattle.region_split.specs.Regions.{RegionView, entries_of, heights_of, position_entry}
 use Rattle.region_split.specs.declared.frame.Position.{Position}
 use Rattle.region_capture.specs.CapturedMeanings.{MeantAlternative, MeansAlternative, meant_continuation}
-use Rattle.region_capture.specs.CapturedChoices.{BoundThen, MeantChoice, bound_under, CaptureChoices, meant_entries, AreHeightsOf}
+use Rattle.region_capture.specs.CapturedChoices.{BoundThen, MeantChoice, bound_under, CaptureChoices, meant_entries, AreHeightsOf, MarkGuards}
 use Rattle.region_capture.specs.declared.captured.Captured.{Captured}
 
 -- there are so many choice points, at least one, and none over them is the end of a query
-pub record IsFloor (floor : ℕ) (r : RegionView) : Type 0 where
+pub record IsCaptureFloor (floor : ℕ) (r : RegionView) : Type 0 where
   pub some : 1 ≤ floor
   pub many : floor ≤ length r.choices
   pub own : Each StandsForNoEnd (drop floor r.choices)
@@ -35,6 +35,8 @@ pub record CapturesRegion (old new : RegionView) (floor : ℕ) (p : Position) (c
   pub captured : CaptureChoices c.items (bound_at start) floor c.choices.items choices
   pub entries : (named : List NamedTerm) → entries_of named old ≡ meant_entries (heights_of named old) named choices ++ entries_of named new
   pub heights : (named : List NamedTerm) → AreHeightsOf (heights_of named old) named floor (length (entries_of named new)) choices
+  pub marks : MarkGuards floor choices current
+  pub choice_marks : Each (λ m. Each (MarkGuards floor choices) m.alternatives) choices
   pub below : (named : List NamedTerm) (n : ℕ) → n ≤ floor → height_of_cut (heights_of named new) n ≡ height_of_cut (heights_of named old) n
   pub left : new.choices ≡ take floor old.choices
   pub text : new.text ≡ old.text

@@ -36,7 +36,7 @@ pub struct CapturedItems {
 impl Model for CapturedItems {
     ghost use Rattle.std.specs.Coded.{codes};
     ghost use Rattle.au_term.specs.PrefixOrder.{term_code};
-    ghost use Rattle.region_capture.specs.CapturedItems.{ItemLists, linked_items, AreLinkedFrom};
+    ghost use Rattle.region_capture.specs.CapturedItems.{ItemLists, linked_items, AreItemLinksFrom};
 
     ghost Value = { ItemLists };
 
@@ -44,7 +44,7 @@ impl Model for CapturedItems {
 
     ghost view = { λ s. linked_items s.links.items };
 
-    ghost invariant = { λ s. AreLinkedFrom 1 s.links.items };
+    ghost invariant = { λ s. AreItemLinksFrom 1 s.links.items };
 }
 
 impl CapturedItems {

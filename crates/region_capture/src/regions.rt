@@ -1,7 +1,7 @@
 //! Regions that are taken off down to a floor.
 ghost use Rattle.std.specs.Prelude.{IfOk};
 ghost use Rattle.region_split.specs.Regions.{IsPositionIn};
-ghost use Rattle.region_capture.specs.CapturedRegions.{CapturesRegion, IsFloor};
+ghost use Rattle.region_capture.specs.CapturedRegions.{CapturesRegion, IsCaptureFloor};
 
 use crate::alternatives::capture_newest;
 use crate::captured::Captured;
@@ -18,7 +18,7 @@ pub fn capture(
     floor: u32,
     position: Position,
 ) -> Result<Captured, NoMemory>
-    requires floor { IsFloor floor region.old }
+    requires floor { IsCaptureFloor floor region.old }
     requires position { IsPositionIn region.old position }
     ensures { IfOk result (CapturesRegion region.old region.new floor position) }
 {

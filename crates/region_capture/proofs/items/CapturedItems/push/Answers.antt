@@ -1,5 +1,5 @@
 use Rattle.std.proofs.Common.{◌<◌, length, sym, subst, arith}
-use Rattle.region_capture.specs.CapturedItems.{ItemLists, AreLinkedFrom, AddsItems, HasItemBefore, captured_item, linked_items}
+use Rattle.region_capture.specs.CapturedItems.{ItemLists, AreItemLinksFrom, AddsItems, HasItemBefore, captured_item, linked_items}
 use Rattle.region_capture.specs.declared.items.ItemLink.{ItemLink}
 use Rattle.region_capture.proofs.ItemLemmas.{pushed_linked, pushed_before, pushed_adds}
 use Rattle.region_capture.proofs.items.CapturedItems.push.Goals.{In_ok-push}
@@ -13,7 +13,7 @@ module _ (c : In_ok-push) where
   within = subst (λ (lists : ItemLists). c.args.after < length lists) (sym c.self.view_is) c.requires
 
 pub invariant_of-self-2 : goal.invariant_of-self-2
-invariant_of-self-2 c = subst (AreLinkedFrom 1) (sym c.in_ok-push.ensures.items) (pushed_linked c.self.inside.links.items (link c) c.self.invariant (within c))
+invariant_of-self-2 c = subst (AreItemLinksFrom 1) (sym c.in_ok-push.ensures.items) (pushed_linked c.self.inside.links.items (link c) c.self.invariant (within c))
 
 pub returns-clause-before : goal.returns-clause-before
 returns-clause-before c =
