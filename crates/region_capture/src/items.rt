@@ -57,6 +57,13 @@ impl CapturedItems {
         }
     }
 
+    /// How many numbers there are, from 0 on.
+    pub fn numbers(&self) -> usize
+        ensures { result ≡ length self.now }
+    {
+        self.links.len() + 1
+    }
+
     /// The number that has none.
     pub fn nothing(&self) -> u32
         ensures { HasItems self.now result [] }
