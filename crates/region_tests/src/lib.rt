@@ -5,6 +5,8 @@
 #[cfg(test)]
 mod calls;
 #[cfg(test)]
+mod captures;
+#[cfg(test)]
 mod choices;
 #[cfg(test)]
 mod common;
