@@ -1,5 +1,5 @@
 -- Choice points that were taken off, and written down.
-use Rattle.std.proofs.Common.{◌≡◌, ℕ, Vec, ◌+◌, ◌≤◌, List, [], ◌∷◌, ◌++◌, append-nil, length, length-append, map, refl, sym, ap, ap₂, ◌∙◌, subst, arith, inl, inr}
+use Rattle.std.proofs.Common.{◌≡◌, ℕ, Vec, ◌+◌, ◌≤◌, List, [], ◌∷◌, ◌++◌, append-nil, length, length-append, map, refl, sym, ap, ap₂, ◌∙◌, subst, arith}
 use Rattle.std.proofs.lemmas.List.{same_from_push}
 use Rattle.std.specs.Global.{Global}
 use Rattle.au_term.specs.Term.{Term, var_bound}
@@ -17,18 +17,16 @@ use Rattle.region_split.specs.Regions.{RegionView, heights_of, items_here, IsPos
 use Rattle.region_split.specs.StackOperations.{TakesNewest}
 use Rattle.region_split.specs.ResultLists.{ResultsView}
 use Rattle.region_split.specs.declared.choice.Alternatives.{Alternatives}
-use Rattle.region_split.specs.declared.choice.Alternatives.TheVariants.{Elsewhere, Catch as CatchOf, Findall as FindallOf, Clauses, Solutions}
+use Rattle.region_split.specs.declared.choice.Alternatives.TheVariants.{Elsewhere, Catch as CatchOf, Findall as FindallOf}
 use Rattle.region_split.specs.declared.choice.ChoicePoint.{ChoicePoint}
 use Rattle.region_split.specs.declared.frame.Position.{Position}
 use Rattle.cell_store.proofs.CellMeaningLemmas.{term_below}
-use Rattle.clause_index.specs.declared.cursor.Cursor.{Cursor}
-use Rattle.region_split.specs.Solutions.{SolutionView}
 use Rattle.au_model.specs.Terms.Each.{Each}
 use Rattle.region_capture.specs.CapturedItems.{ItemLists, IsItemOver}
 use Rattle.region_capture.specs.CapturedMeanings.{MeantAlternative, MeansAlternative, AreMeant, meant_entry, meant_continuation, captured_bindings}
 use Rattle.region_capture.specs.CapturedChoices.{MeantChoice, group_entries, IsAloneOf, CapturesChoice}
 use Rattle.region_capture.specs.CapturedRegions.{bound_at}
-use Rattle.region_capture.specs.CaptureSteps.{AreWrittenSince, CapturesFollowing, CapturesUpTo, CapturesGroup, CapturesNewest, HasOwnOnTop, entries_here, no_entries, IsGuarding, HasMarksAt}
+use Rattle.region_capture.specs.CaptureSteps.{AreWrittenSince, CapturesFollowing, CapturesUpTo, CapturesGroup, CapturesNewest, HasOwnOnTop, entries_here, no_entries, HasMarksAt}
 use Rattle.region_capture.specs.declared.captured.CapturedAlternative.{CapturedAlternative}
 use Rattle.region_capture.specs.declared.captured.CapturedChoice.{CapturedChoice}
 use Rattle.region_capture.specs.declared.captured.CapturedKind.{CapturedKind}

@@ -1,6 +1,5 @@
 use Rattle.std.proofs.Common.{ap, ◌∙◌, subst}
 use Rattle.cell_store.specs.StoreView.{StoreView, IsValidStore, value_term}
-use Rattle.region_split.specs.Regions.{AreAlternativesIn}
 use Rattle.region_capture.proofs.GroupLemmas.{elsewhere_captured, catch_captured, findall_captured}
 use Rattle.region_capture.proofs.alternatives.capture_group.Goals as goal
 

@@ -1,4 +1,4 @@
-use Rattle.std.proofs.Common.{◌≡◌, ◌+◌, [], ◌∷◌, length, ap, arith}
+use Rattle.std.proofs.Common.{◌≡◌, [], ◌∷◌, length, ap, arith}
 use Rattle.region_capture.specs.CapturedItems.{ItemLists, linked_items}
 use Rattle.region_capture.proofs.ItemLemmas.{length-linked}
 use Rattle.region_capture.proofs.items.CapturedItems.numbers.Goals as goal
