@@ -1,4 +1,4 @@
-use Rattle.std.proofs.Common.{◌≡◌, ◌+◌, ◌≤◌, [], ◌∷◌, List, length, length-append, ap, arith}
+use Rattle.std.proofs.Common.{◌≤◌, [], ◌∷◌, length, length-append, ap, arith}
 use Rattle.region_split.specs.Regions.{RegionView}
 use Rattle.region_capture.proofs.PositionLemmas.{over_more}
 use Rattle.region_tests.proofs.captures.capture_binding.Goals as goal
