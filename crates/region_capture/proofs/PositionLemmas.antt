@@ -14,13 +14,10 @@ use Rattle.region_split.specs.declared.choice.ChoicePoint.{ChoicePoint}
 use Rattle.region_split.specs.declared.frame.FrameItem.{FrameItem}
 use Rattle.region_split.specs.declared.frame.FrameItem.TheVariants.{Goal, Call, Cut, True, Fail, CatchEnd, Collect, Removal}
 use Rattle.region_split.specs.declared.frame.Position.{Position}
-use Rattle.region_split.proofs.ScopeLemmas.{scoped_more}
+use Rattle.region_split.proofs.ItemLemmas.{position_more}
 use Rattle.region_capture.specs.CapturedItems.{captured_item, IsItemOver}
 use Rattle.region_capture.specs.CaptureSteps.{IsGuarding, IsGuardAt, HasMarkAt}
 use Rattle.region_capture.specs.declared.items.CapturedItem.{CapturedItem}
-
-pub over_more : (r : RegionView) (cut many : ℕ) (p : Position) → cut ≤ many → IsPositionOver r cut p → IsPositionOver r many p
-over_more r cut many p le i = record { frame = i.frame; scoped = scoped_more (text_in r.store) r.store.now.next cut many (left_here r p) le i.scoped; marked = i.marked }
 
 -- the first item was written down
 module _ (r : RegionView) (p : Position) (item : FrameItem) (cut : ℕ) (first : IsFirstAt r p item cut) (at : ℕ) (next : at ≡ p.at + 1) where
@@ -31,7 +28,7 @@ module _ (r : RegionView) (p : Position) (item : FrameItem) (cut : ℕ) (first :
   after_is = ap (λ n. (let q : Position = record { frame = p.frame; at = n } in q)) (sym next)
 
   pub next_there : IsPositionIn r after
-  next_there = subst (IsPositionIn r) after_is (over_more r cut (length r.choices) (next_position p) first.scope first.after)
+  next_there = subst (IsPositionIn r) after_is (position_more r cut (length r.choices) (next_position p) first.scope first.after)
 
   pub next_items : (done more : List CapturedItem) (captured : CapturedItem) (all : List (Item ℕ)) → more ≡ done ++ captured ∷ [] → captured_item captured ≡ scoped_item (text_in r.store) item cut → map captured_item done ++ items_here r p ≡ all
       → map captured_item more ++ items_here r after ≡ all

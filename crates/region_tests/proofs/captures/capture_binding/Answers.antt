@@ -1,6 +1,6 @@
 use Rattle.std.proofs.Common.{◌≤◌, [], ◌∷◌, length, length-append, ap, arith}
 use Rattle.region_split.specs.Regions.{RegionView}
-use Rattle.region_capture.proofs.PositionLemmas.{over_more}
+use Rattle.region_split.proofs.ItemLemmas.{position_more}
 use Rattle.region_tests.proofs.captures.capture_binding.Goals as goal
 
 pub capture-requires-clause-position : goal.capture-requires-clause-position
@@ -13,4 +13,4 @@ capture-requires-clause-position c =
     let e = ap (λ (x : RegionView). length x.choices) stays.others in
     let a = ap (λ (x : RegionView). length x.choices) adds.others in
     omega (arith, e, a, length-append c.push_item.new.self.choices (adds.choice ∷ [])) in
-    over_more c.unify.new.self 1 (length c.unify.new.self.choices) p many (stays.position 1 p (adds.keeps.position 1 p put.position.frame put.position))
+    position_more c.unify.new.self 1 (length c.unify.new.self.choices) p many (stays.position 1 p (adds.keeps.position 1 p put.position.frame put.position))
