@@ -1,3 +1,8 @@
 mod MadeUnifierLemmas
 mod SameUnifierLemmas
 mod CellEquationLemmas
+mod ExtensionLemmas
+mod ExtendedUnifierLemmas
+mod SettledBindingLemmas
+mod SettledExtensionLemmas
+mod WrittenBindingLemmas

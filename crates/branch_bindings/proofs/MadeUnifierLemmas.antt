@@ -19,7 +19,7 @@ each_at P [] x k h lt is = absurd (omega arith)
 each_at P (y ∷ xs) x zero h lt is = subst P is h.0
 each_at P (y ∷ xs) x (suc k) h lt is = each_at P xs x k h.1 (omega arith) is
 
-each_of : {X : Type 0} (P : X → Type 0) (xs : List X) (x : X) → Each P xs → Contains xs x → P x
+pub each_of : {X : Type 0} (P : X → Type 0) (xs : List X) (x : X) → Each P xs → Contains xs x → P x
 each_of P xs x h c = each_at P xs x c.0 h c.1 c.2
 
 each_unified : (g : ℕ → Term) (eqs : Equations) → Unifies g eqs → Each (λ e. apply g e.0 ≡ apply g e.1) eqs

@@ -1,2 +1,4 @@
 pub mod BindingEquations
 pub mod CellEquations
+pub mod Extensions
+pub mod ExtensionLaws
