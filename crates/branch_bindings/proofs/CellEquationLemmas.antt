@@ -23,13 +23,15 @@ older_value code n v w (Int z) h falls e = absurd cc
 older_value code n v w (Atom a) h falls e = absurd cc
 older_value code n v w (Compound at base) h falls e = absurd (no_variable (cell_term code (Compound at base)) w (means_compound code at base h.0) e)
 
-module _ (code : CodeView) (cells : List BindingCell) (s : Substitution) (falling : AreFalling cells) (values : AreCells code cells) (r : Represents code cells s) where
+module _ (code : CodeView) (cells : List BindingCell) (s : Substitution) (falling : AreFalling cells) (values : AreCells code cells)
+    (r : Represents code cells s) where
   is_binding : (e : Term × Term) → IsCellEquation code cells e → IsBindingBy s e
   is_binding e h = record {
     variable = h.variable;
     left_is = ap (λ q. q.0) h.is;
     stands = bound_stands code s h.variable cells r h.bound ∙ sym (ap (λ q. resolve s q.1) h.is);
-    older = λ w k. older_value code (length cells) h.variable w (variable_cell cells h.variable) (has_value code cells s falling values r h.variable h.bound) (falling h.variable) (sym (ap (λ q. q.1) h.is) ∙ k);
+    older = λ w k. older_value code (length cells) h.variable w (variable_cell cells h.variable)
+        (has_value code cells s falling values r h.variable h.bound) (falling h.variable) (sym (ap (λ q. q.1) h.is) ∙ k);
   }
 
   all_bindings : (eqs : Equations) → Each (IsCellEquation code cells) eqs → Each (IsBindingBy s) eqs

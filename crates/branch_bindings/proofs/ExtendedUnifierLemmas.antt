@@ -36,7 +36,8 @@ answer_older s (Some u) h k = λ v w e. k v w (h v ∙ e)
 pub unifiers_stand_for_older : UnifiersStandForOlder
 unifiers_stand_for_older eqs s h = answer_older s (unifier eqs) h (keeps_older eqs)
 
-answer_final : (s : Substitution) (eqs : Equations) (o : Option Substitution) → SameValues o (Some s) → IsUnifierAnswer o eqs → Unifies (value_of s) eqs → IsFinal s
+answer_final : (s : Substitution) (eqs : Equations) (o : Option Substitution) → SameValues o (Some s) → IsUnifierAnswer o eqs → Unifies (value_of s) eqs
+    → IsFinal s
 answer_final s eqs None h a u = absurd h
 answer_final s eqs (Some t) h a u = λ v. ap (resolve s) (sym (h v)) ∙ a.general (value_of s) u v
 
@@ -58,7 +59,11 @@ falling_of : (s : Substitution) (e : Term × Term) → IsBindingBy s e → IsFal
 falling_of s e b = record { variable = b.variable; left_is = b.left_is; older = b.older }
 
 unified_of : (eqs : Equations) (s : Substitution) → AreBindingsBy s eqs → AreUnifiedBindings eqs s
-unified_of eqs s h = record { each = each-more (IsBindingBy s) IsFallingEquation (falling_of s) eqs h.each; unified = unifier_is_made s eqs h; free_or_bound = h.free_or_bound }
+unified_of eqs s h = record {
+  each = each-more (IsBindingBy s) IsFallingEquation (falling_of s) eqs h.each;
+  unified = unifier_is_made s eqs h;
+  free_or_bound = h.free_or_bound;
+}
 
 -- one of the bindings as an equation
 pub equation_among : (bs : WrittenBindings) (v : ℕ) (value : Term) → Contains bs (v, value) → Contains (written_equations bs) (VarTerm v, value)

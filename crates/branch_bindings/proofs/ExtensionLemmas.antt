@@ -1,21 +1,24 @@
 -- Bindings that are made further, one after another.
-use Rattle.std.proofs.Common.{◌≡◌, ◌⊎◌, inl, inr, ℕ, zero, suc, ◌<◌, ◌≤◌, Bool, true, false, nat_lt, [], ◌∷◌, ◌++◌, refl, sym, ap, ◌∙◌, arith}
+use Rattle.std.proofs.Common.{◌≡◌, ◌⊎◌, inl, inr, ℕ, zero, suc, ◌<◌, ◌≤◌, Bool, true, false, nat_lt, ◌==◌, [], ◌∷◌, ◌++◌, refl, sym, ap, ◌∙◌, arith}
+use Rattle.std.proofs.lemmas.Bool.{eqb-true}
 use Rattle.std.proofs.lemmas.Bool.Decides.{nat_tests}
 use Rattle.std.proofs.lemmas.List.Elements.{Contains-append_left, Contains-append_right, Contains-append_cases}
 use Rattle.au_term.specs.Term.{Term, VarTerm, IntTerm, AtomTerm, Compound}
-use Rattle.au_model.specs.Terms.Substitutions.{Substitution, value_of, resolve}
+use Rattle.au_model.specs.Terms.Substitutions.{Substitution, value_of, resolve, occurs}
 use Rattle.au_model.proofs.ApplyLemmas.{apply-apply, apply-same}
 use Rattle.au_model.proofs.EachLemmas.{each-append, each-more}
+use Rattle.cell_store.proofs.OccurrenceLemmas.{agreed}
 use Rattle.branch_bindings.specs.Extensions.{WrittenBindings, IsBoundAmong, IsWrittenBinding, BindOnce, ExtendsBy}
-use Rattle.branch_bindings.specs.ExtensionLaws.{StandsForOlder, ExtensionsCompose, ExtensionsStayOlder, NothingExtends}
-use Rattle.branch_bindings.proofs.MadeUnifierLemmas.{each_of}
+use Rattle.branch_bindings.specs.ExtensionLaws.{StandsForOlder, IsFinal, ExtensionsCompose, ExtensionsStayOlder, ExtensionsAreFinal, NothingExtends}
+use Rattle.branch_bindings.proofs.MadeUnifierLemmas.{each_of, ComesBefore, inside_before, by_size}
 
 -- what is bound further is bound in what was bound
 pub resolved_further : (s t : Substitution) → ((v : ℕ) → value_of t v ≡ resolve t (value_of s v)) → (u : Term) → resolve t (resolve s u) ≡ resolve t u
 resolved_further s t h u = apply-apply (value_of t) (value_of s) u ∙ apply-same (λ w. resolve t (value_of s w)) (value_of t) (λ w. sym (h w)) u
 
 -- a term stands for no variable that is younger than one, where no older one does
-pub from_older : (s : Substitution) (v m : ℕ) (t : Term) → ((u : ℕ) → u < v → (k : ℕ) → value_of s u ≡ VarTerm k → k ≤ u) → ((w : ℕ) → t ≡ VarTerm w → w < v) → resolve s t ≡ VarTerm m → m < v
+pub from_older : (s : Substitution) (v m : ℕ) (t : Term) → ((u : ℕ) → u < v → (k : ℕ) → value_of s u ≡ VarTerm k → k ≤ u)
+    → ((w : ℕ) → t ≡ VarTerm w → w < v) → resolve s t ≡ VarTerm m → m < v
 from_older s v m (VarTerm u) less falls e = let lt = falls u refl in let le = less u lt m e in omega arith
 from_older s v m (IntTerm z) less falls e = absurd cc
 from_older s v m (AtomTerm a) less falls e = absurd cc
@@ -33,7 +36,8 @@ module _ (a b : Substitution) (n : ℕ) (bs : WrittenBindings) (older : StandsFo
 
       free : w ≡ v → (value_of b v ≡ VarTerm v) ⊎ IsBoundAmong bs v → m ≤ v
       free same (inl f) = let here : VarTerm v ≡ VarTerm m = sym f ∙ (ap (value_of b) (sym same) ∙ r) in let k : v ≡ m = cc in omega arith
-      free same (inr k) = let lt = from_older b v m k.value less (binding_of v k).older (sym (binding_of v k).stands ∙ (ap (value_of b) (sym same) ∙ r)) in omega arith
+      free same (inr k) = let lt = from_older b v m k.value less (binding_of v k).older
+          (sym (binding_of v k).stands ∙ (ap (value_of b) (sym same) ∙ r)) in omega arith
 
       by_test : (t : Bool) → nat_lt w v ≡ t → m ≤ v
       by_test true q = let lt : w < v = grind (arith, nat_tests) in let k = less w lt m r in omega arith
@@ -64,7 +68,51 @@ module _ (a b : Substitution) (n : ℕ) (bs : WrittenBindings) (older : StandsFo
   not_free v k f =
       let lt = from_older b v v k.value (λ u l. stays_older u) (binding_of v k).older (sym (binding_of v k).stands ∙ f) in omega arith
 
-module _ (a b c : Substitution) (n m : ℕ) (bs cs : WrittenBindings) (older : StandsForOlder a) (h : ExtendsBy a b n bs) (k : ExtendsBy b c m cs) (le : n ≤ m) where
+-- what a variable stands for has all bindings applied, where that holds of the variables of a term that stands for the same
+final_by : (s : Substitution) (v : ℕ) (t : Term) → value_of s v ≡ resolve s t → ((w : ℕ) → occurs w t ≡ true → resolve s (value_of s w) ≡ value_of s w)
+    → resolve s (value_of s v) ≡ value_of s v
+final_by s v t e h =
+    ap (resolve s) e ∙ (apply-apply (value_of s) (value_of s) t ∙ (agreed (λ w. resolve s (value_of s w)) (value_of s) t h ∙ sym e))
+
+module _ (a b : Substitution) (n : ℕ) (bs : WrittenBindings) (older : StandsForOlder a) (h : ExtendsBy a b n bs) where
+  abbrev FinalBefore : ℕ → Type 0
+  FinalBefore v = (w : ℕ) → ComesBefore b w v → resolve b (value_of b w) ≡ value_of b w
+
+  was_free_here : (v : ℕ) → FinalBefore v → value_of a v ≡ VarTerm v → resolve b (value_of b v) ≡ value_of b v
+  was_free_here v before f = elim (h.others v f) [
+    | inl e ↦ ap (resolve b) e
+    | inr k ↦
+        let one = each_of (IsWrittenBinding a b n) bs (v, k.value) h.each k.is in
+        final_by b v k.value one.stands (λ w o. before w (inside_before b v w k.value one.stands one.older o))
+  ]
+
+  stood_for : (v : ℕ) → FinalBefore v → ((w : ℕ) → value_of a v ≡ VarTerm w → w < v) → resolve b (value_of b v) ≡ value_of b v
+  stood_for v before falls =
+      final_by b v (value_of a v) (h.further v) (λ w o. before w (inside_before b v w (value_of a v) (h.further v) falls o))
+
+  final_step : (v : ℕ) → FinalBefore v → resolve b (value_of b v) ≡ value_of b v
+  final_step v before = by_value_of (value_of a v) refl
+    where
+      by_test : (w : ℕ) → value_of a v ≡ VarTerm w → (t : Bool) → (w == v) ≡ t → resolve b (value_of b v) ≡ value_of b v
+      by_test w e true q = was_free_here v before (e ∙ ap VarTerm (eqb-true w v q))
+      by_test w e false q = stood_for v before (λ u f.
+          let both : VarTerm w ≡ VarTerm u = sym e ∙ f in
+          let same : w ≡ u = cc in
+          let le : w ≤ v = older v w e in
+          let lt : w < v = grind (arith, nat_tests) in
+          omega (arith, same, lt))
+
+      by_value_of : (t : Term) → value_of a v ≡ t → resolve b (value_of b v) ≡ value_of b v
+      by_value_of (VarTerm w) e = by_test w e (w == v) refl
+      by_value_of (IntTerm z) e = stood_for v before (λ u f. absurd cc)
+      by_value_of (AtomTerm z) e = stood_for v before (λ u f. absurd cc)
+      by_value_of (Compound z ts) e = stood_for v before (λ u f. absurd cc)
+
+  pub becomes_final : IsFinal b
+  becomes_final = by_size b (λ v. resolve b (value_of b v) ≡ value_of b v) final_step
+
+module _ (a b c : Substitution) (n m : ℕ) (bs cs : WrittenBindings) (older : StandsForOlder a) (h : ExtendsBy a b n bs) (k : ExtendsBy b c m cs)
+    (le : n ≤ m) where
   through : (t : Term) → resolve c (resolve b t) ≡ resolve c t
   through = resolved_further b c k.further
 
@@ -115,6 +163,9 @@ extensions_compose a b c n m bs cs older h k le = both_extend a b c n m bs cs ol
 
 pub extensions_stay_older : ExtensionsStayOlder
 extensions_stay_older a b n bs older h = stays_older a b n bs older h
+
+pub extensions_are_final : ExtensionsAreFinal
+extensions_are_final a b n bs older h = becomes_final a b n bs older h
 
 pub nothing_extends : NothingExtends
 nothing_extends s n final = record { each = tt; once = tt; others = λ v f. inl f; further = λ v. sym (final v) }

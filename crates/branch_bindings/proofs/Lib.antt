@@ -1,8 +1,8 @@
 mod MadeUnifierLemmas
 mod SameUnifierLemmas
 mod CellEquationLemmas
-mod ExtensionLemmas
-mod ExtendedUnifierLemmas
-mod SettledBindingLemmas
-mod SettledExtensionLemmas
-mod WrittenBindingLemmas
+pub mod ExtensionLemmas
+pub mod ExtendedUnifierLemmas
+pub mod SettledBindingLemmas
+pub mod SettledExtensionLemmas
+pub mod WrittenBindingLemmas

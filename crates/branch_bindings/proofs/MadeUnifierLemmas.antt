@@ -31,11 +31,11 @@ unified_each s [] h = tt
 unified_each s (e ∷ eqs) h = (ap (resolve s) h.0.left_is ∙ h.0.stands, unified_each s eqs h.1)
 
 -- w stands for less than v, or for as much and is older
-abbrev ComesBefore : Substitution → ℕ → ℕ → Type 0
+abbrev pub ComesBefore : Substitution → ℕ → ℕ → Type 0
 ComesBefore s w v = (size (value_of s w) < size (value_of s v)) ⊎ ((size (value_of s w) ≤ size (value_of s v)) × (w < v))
 
 -- as each variable of what v is bound to
-inside_before : (s : Substitution) (v w : ℕ) (t : Term) → value_of s v ≡ resolve s t → ((u : ℕ) → t ≡ VarTerm u → u < v) → occurs w t ≡ true → ComesBefore s w v
+pub inside_before : (s : Substitution) (v w : ℕ) (t : Term) → value_of s v ≡ resolve s t → ((u : ℕ) → t ≡ VarTerm u → u < v) → occurs w t ≡ true → ComesBefore s w v
 inside_before s v w (VarTerm u) e older o =
     let same : w ≡ u = eqb-true w u o in
     let as_much : size (value_of s w) ≡ size (value_of s v) = ap (λ n. size (value_of s n)) same ∙ sym (ap size e) in
@@ -54,7 +54,7 @@ module _ (s : Substitution) (P : ℕ → Type 0) (step : (v : ℕ) → ((w : ℕ
   to_size zero v lt = absurd (omega arith)
   to_size (suc m) v lt = of_size m (to_size m) (suc v) v (omega arith) (omega arith)
 
-  by_size : (v : ℕ) → P v
+  pub by_size : (v : ℕ) → P v
   by_size v = to_size (suc (size (value_of s v))) v (omega arith)
 
 module _ (s : Substitution) (eqs : Equations) (h : AreBindingsBy s eqs) where

@@ -1,5 +1,6 @@
 -- Bindings each of which binds another variable: a variable that none of them binds is free by their unifier.
-use Rattle.std.proofs.Common.{◌≡◌, ◌⊎◌, inl, inr, ℕ, zero, suc, ◌<◌, ◌≤◌, Bool, true, false, cond, ◌==◌, nat_lt, [], ◌∷◌, length, Option, Some, None, refl, sym, ap, ◌∙◌, arith}
+use Rattle.std.proofs.Common.{◌≡◌, ◌⊎◌, inl, inr, ℕ, zero, suc, ◌<◌, ◌≤◌, Bool, true, false, cond, ◌==◌, nat_lt, [], ◌∷◌, length, Option, Some, None, refl}
+use Rattle.std.proofs.Common.{sym, ap, ◌∙◌, arith}
 use Rattle.std.specs.Option.{option_map}
 use Rattle.std.proofs.lemmas.Bool.{eqb-true}
 use Rattle.std.proofs.lemmas.Bool.Decides.{nat_tests}
@@ -48,7 +49,8 @@ module _ (v : ℕ) (t : Term) (falls : (w : ℕ) → t ≡ VarTerm w → w < v) 
   all_fall [] h k = tt
   all_fall (e ∷ eqs) h k = (still_falls e h.0 k.0, all_fall eqs h.1 k.1)
 
-  others_kept : (a b : Term) → a ≡ b → (eqs : Equations) → Each IsFallingEquation eqs → Each (BindsOther v) eqs → Each (λ d. d.0 ≡ a → ⊥) eqs → Each (λ d. d.0 ≡ b → ⊥) (replace v t eqs)
+  others_kept : (a b : Term) → a ≡ b → (eqs : Equations) → Each IsFallingEquation eqs → Each (BindsOther v) eqs → Each (λ d. d.0 ≡ a → ⊥) eqs
+      → Each (λ d. d.0 ≡ b → ⊥) (replace v t eqs)
   others_kept a b same [] h k r = tt
   others_kept a b same (e ∷ eqs) h k r = ((λ q. r.0 (sym (kept_left e h.0 k.0) ∙ (q ∙ sym same))), others_kept a b same eqs h.1 k.1 r.1)
 
@@ -79,7 +81,8 @@ module _ (v : ℕ) (t : Term) (falls : (w : ℕ) → t ≡ VarTerm w → w < v) 
       by_test false = inr refl
 
 -- the values of an answer for more bindings
-in_front : (x v : ℕ) (t : Term) (o : Option Substitution) (s : Substitution) → (x ≡ v → ⊥) → option_map (bound x t) o ≡ Some s → ((u : Substitution) → o ≡ Some u → value_of u v ≡ VarTerm v)
+in_front : (x v : ℕ) (t : Term) (o : Option Substitution) (s : Substitution) → (x ≡ v → ⊥) → option_map (bound x t) o ≡ Some s
+    → ((u : Substitution) → o ≡ Some u → value_of u v ≡ VarTerm v)
     → value_of s v ≡ VarTerm v
 in_front x v t None s apart e h = absurd cc
 in_front x v t (Some u) s apart e h =
@@ -92,13 +95,16 @@ in_front x v t (Some u) s apart e h =
 
 -- for lists up to a length
 abbrev ForShorter : ℕ → ℕ → Type 0
-ForShorter k v = (eqs : Equations) → length eqs ≤ k → Each IsFallingEquation eqs → BindApart eqs → (s : Substitution) → unifier eqs ≡ Some s → Each (BindsOther v) eqs → value_of s v ≡ VarTerm v
+ForShorter k v = (eqs : Equations) → length eqs ≤ k → Each IsFallingEquation eqs → BindApart eqs → (s : Substitution) → unifier eqs ≡ Some s
+    → Each (BindsOther v) eqs → value_of s v ≡ VarTerm v
 
-unbound_free : (k : ℕ) (eqs : Equations) → length eqs ≤ k → Each IsFallingEquation eqs → BindApart eqs → (s : Substitution) → unifier eqs ≡ Some s → (v : ℕ) → Each (BindsOther v) eqs
+unbound_free : (k : ℕ) (eqs : Equations) → length eqs ≤ k → Each IsFallingEquation eqs → BindApart eqs → (s : Substitution) → unifier eqs ≡ Some s
+    → (v : ℕ) → Each (BindsOther v) eqs
     → value_of s v ≡ VarTerm v
 unbound_free k [] le h r s e v o = let same : [] ≡ s = cc (unifier_goes.none_left) in ap (λ u. value_of u v) (sym same)
 unbound_free zero (d ∷ eqs) le h r s e v o = absurd (omega arith)
-unbound_free (suc k) (d ∷ eqs) le h r s e v o = by_its_rule (λ es less falling apart u q left. unbound_free k es less falling apart u q v left) (its_rule x d.1 h.0.older d.1 refl)
+unbound_free (suc k) (d ∷ eqs) le h r s e v o = by_its_rule
+    (λ es less falling apart u q left. unbound_free k es less falling apart u q v left) (its_rule x d.1 h.0.older d.1 refl)
   where
     x : ℕ
     x = h.0.variable
@@ -115,7 +121,8 @@ unbound_free (suc k) (d ∷ eqs) le h r s e v o = by_its_rule (λ es less fallin
 
     by_its_rule : ForShorter k v → (rule (VarTerm x) d.1 ≡ Clash) ⊎ (rule (VarTerm x) d.1 ≡ Replaced x d.1) → value_of s v ≡ VarTerm v
     by_its_rule shorter (inl q) = let none : None ≡ Some s = sym (ap (λ a. by_rule a eqs unifier) q) ∙ (sym first ∙ e) in absurd cc
-    by_its_rule shorter (inr q) = in_front x v d.1 (unifier (replace x d.1 eqs)) s (λ same. o.0 (h.0.left_is ∙ ap VarTerm same)) (sym (ap (λ a. by_rule a eqs unifier) q) ∙ (sym first ∙ e)) (rest shorter)
+    by_its_rule shorter (inr q) = in_front x v d.1 (unifier (replace x d.1 eqs)) s
+        (λ same. o.0 (h.0.left_is ∙ ap VarTerm same)) (sym (ap (λ a. by_rule a eqs unifier) q) ∙ (sym first ∙ e)) (rest shorter)
 
 has_or_not : (v : ℕ) (eqs : Equations) → Each IsFallingEquation eqs → HasBinding eqs v ⊎ Each (BindsOther v) eqs
 has_or_not v [] h = inr tt
@@ -129,7 +136,8 @@ has_or_not v (e ∷ eqs) h = by_test (has_or_not v eqs h.1) (h.0.variable == v) 
         other : e.0 ≡ VarTerm v → (h.0.variable == v) ≡ false → ⊥
         other z f = let both : VarTerm h.0.variable ≡ VarTerm v = sym h.0.left_is ∙ z in let same : h.0.variable ≡ v = cc in grind (arith, nat_tests)
 
-answer_frees : (eqs : Equations) (s : Substitution) (v : ℕ) (o : Option Substitution) → unifier eqs ≡ o → SameValues o (Some s) → Each IsFallingEquation eqs → BindApart eqs → Each (BindsOther v) eqs → value_of s v ≡ VarTerm v
+answer_frees : (eqs : Equations) (s : Substitution) (v : ℕ) (o : Option Substitution) → unifier eqs ≡ o → SameValues o (Some s)
+    → Each IsFallingEquation eqs → BindApart eqs → Each (BindsOther v) eqs → value_of s v ≡ VarTerm v
 answer_frees eqs s v None e h k r p = absurd h
 answer_frees eqs s v (Some u) e h k r p = sym (h v) ∙ unbound_free (length eqs) eqs (omega arith) k r u e v p
 

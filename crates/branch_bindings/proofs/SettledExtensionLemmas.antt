@@ -58,7 +58,8 @@ settled_bindings_extend s t n m eqs bs h k le =
     let unified = settled_are_unified n eqs s h in
     record {
       each = each-append IsFallingEquation eqs (written_equations bs) h.each
-          (each-map (IsWrittenBinding s t m) IsFallingEquation (λ c. (VarTerm c.0, c.1)) (λ c w. record { variable = c.0; left_is = refl; older = w.older }) bs k.each);
+          (each-map (IsWrittenBinding s t m) IsFallingEquation (λ c. (VarTerm c.0, c.1))
+          (λ c w. record { variable = c.0; left_is = refl; older = w.older }) bs k.each);
       apart = both_apart s t m bs (unifiers_stand_for_older eqs s h.unified) k eqs (made_by eqs s unified).each h.apart;
       below = bounds_both m eqs (written_equations bs) (omega (arith, h.below)) (bounds_written s t m bs k.each);
       unified = (unified_bindings_extend s t m eqs bs unified k).unified;

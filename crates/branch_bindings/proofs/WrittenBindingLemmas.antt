@@ -43,7 +43,8 @@ module _ (st : StoreView) where
           → (cond c (meaning st b.1) (value_of (substitution_of st bs) v) ≡ VarTerm v) ⊎ IsBoundAmong (written_bindings st (b ∷ bs)) v
       by_test k true e = inr (record { value = value_term st b.1; is = (0, omega arith, ap (λ n. (n, value_term st b.1)) (eqb-true b.0 v e)) })
       by_test (inl k) false e = inl k
-      by_test (inr p) false e = inr (record { value = p.value; is = Contains-append_right ((b.0, value_term st b.1) ∷ []) (written_bindings st bs) (v, p.value) p.is })
+      by_test (inr p) false e = inr
+          (record { value = p.value; is = Contains-append_right ((b.0, value_term st b.1) ∷ []) (written_bindings st bs) (v, p.value) p.is })
 
   written_once : (bs : Bindings) → AreRising bs → BindOnce (written_bindings st bs)
   written_once [] r = tt
@@ -59,7 +60,8 @@ module _ (st : StoreView) (valid : IsValidStore st) where
   stands_there v (Int z) h e = absurd cc
   stands_there v (Atom a) h e = absurd cc
   stands_there v (Compound at base) h e =
-      absurd (no_variable (meaning st (Compound at base)) v (resolved_compound (substitution st) (value_term st (Compound at base)) (means_compound (text_in st) at base h.0)) e)
+      absurd (no_variable (meaning st (Compound at base)) v
+      (resolved_compound (substitution st) (value_term st (Compound at base)) (means_compound (text_in st) at base h.0)) e)
 
   is_there : (v : ℕ) (c : BindingCell) → IsValueIn st c → value_of (substitution st) v ≡ meaning st c → v < st.now.next
   is_there v c h e = by_test (nat_lt v st.now.next) refl
@@ -101,12 +103,15 @@ module _ (before : Moment) (st : StoreView) (bs : Bindings) (valid : IsValidStor
     applied : (v : ℕ) → resolve now (value_of further v) ≡ value_of now v
     applied v = elim (free_or_bound st bs v) [
       | inl e ↦ ap (resolve now) e
-      | inr p ↦ ap (resolve now) (sym (made_of v (each_of (IsWrittenBinding before.bound now st.now.next) (written_bindings st bs) (v, p.value) all_written p.is).free)) ∙ valid.final v
+      | inr p ↦ ap (resolve now)
+          (sym (made_of v (each_of (IsWrittenBinding before.bound now st.now.next) (written_bindings st bs) (v, p.value) all_written p.is).free))
+          ∙ valid.final v
     ]
 
     through : (v : ℕ) → value_of now v ≡ resolve now (value_of before.bound v)
     through v = sym (valid.final v) ∙ (ap (resolve now) (made.made v)
-        ∙ (apply-apply (value_of now) (value_of further) (value_of before.bound v) ∙ apply-same (λ u. resolve now (value_of further u)) (value_of now) applied (value_of before.bound v)))
+        ∙ (apply-apply (value_of now) (value_of further) (value_of before.bound v)
+        ∙ apply-same (λ u. resolve now (value_of further u)) (value_of now) applied (value_of before.bound v)))
 
 pub made_bindings_extend : MadeBindingsExtend
 made_bindings_extend before st bs valid made falling = record {

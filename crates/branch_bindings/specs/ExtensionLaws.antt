@@ -60,6 +60,10 @@ ExtensionsCompose = (a b c : Substitution) (n m : ℕ) (bs cs : WrittenBindings)
 abbrev pub ExtensionsStayOlder : Type 0
 ExtensionsStayOlder = (a b : Substitution) (n : ℕ) (bs : WrittenBindings) → StandsForOlder a → ExtendsBy a b n bs → StandsForOlder b
 
+-- in what it gives all further bindings are applied
+abbrev pub ExtensionsAreFinal : Type 0
+ExtensionsAreFinal = (a b : Substitution) (n : ℕ) (bs : WrittenBindings) → StandsForOlder a → ExtendsBy a b n bs → IsFinal b
+
 abbrev pub NothingExtends : Type 0
 NothingExtends = (s : Substitution) (n : ℕ) → IsFinal s → ExtendsBy s s n []
 

@@ -1,8 +1,8 @@
 //! Laws of bindings: each function does nothing, and its contract is the law.
 ghost use Rattle.branch_bindings.specs.BindingEquations.{UnifierIsMade};
 ghost use Rattle.branch_bindings.specs.CellEquations.{UnifierIsRepresented};
-ghost use Rattle.branch_bindings.specs.ExtensionLaws.{ExtensionsCompose, ExtensionsStayOlder, NothingExtends, MadeBindingsExtend};
-ghost use Rattle.branch_bindings.specs.ExtensionLaws.{UnifiedBindingsExtend, SettledBindingsExtend, SettledAreUnified};
+ghost use Rattle.branch_bindings.specs.ExtensionLaws.{ExtensionsCompose, ExtensionsStayOlder, ExtensionsAreFinal, NothingExtends};
+ghost use Rattle.branch_bindings.specs.ExtensionLaws.{UnifiedBindingsExtend, SettledBindingsExtend, SettledAreUnified, MadeBindingsExtend};
 ghost use Rattle.branch_bindings.specs.ExtensionLaws.{UnifiersStandForOlder, UnifiersAreFinal};
 
 /// Where a substitution gives each bound variable what its value stands for by it, leaves all others as they are, and no
@@ -18,10 +18,12 @@ pub fn unifier_is_represented()
     ensures { UnifierIsRepresented }
 {}
 
-/// Further bindings and then others are further bindings of the first substitution, and none are of a final one.
+/// Further bindings and then others are further bindings of the first substitution. What they make gives no variable a younger
+/// one and has all bindings applied, where the first gave none a younger one. No bindings lead from such a substitution to itself.
 pub fn extensions_compose()
     ensures compose { ExtensionsCompose }
     ensures older { ExtensionsStayOlder }
+    ensures last { ExtensionsAreFinal }
     ensures nothing { NothingExtends }
 {}
 

@@ -1,0 +1,10 @@
+pub mod GroupScopeLemmas
+pub mod GroupShapeLemmas
+pub mod GroupBodyLemmas
+pub mod SettledSegmentLemmas
+pub mod ExtendedWayLemmas
+pub mod ShownBodyLemmas
+pub mod ChoiceScopeLemmas
+pub mod MeantBranchLemmas
+pub mod GroupedRunLemmas
+pub mod MeantRunLemmas

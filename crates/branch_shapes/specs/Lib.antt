@@ -1,0 +1,9 @@
+pub mod Groups
+pub mod GroupLaws
+pub mod GroupBodies
+pub mod ExtendedWays
+pub mod ShownBodies
+pub mod ChoiceScopes
+pub mod MeantBranches
+pub mod GroupedRuns
+pub mod MeantRuns

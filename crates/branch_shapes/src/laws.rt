@@ -1,0 +1,76 @@
+//! Laws of entries in groups: each function does nothing, and its contract is the law.
+ghost use Rattle.branch_shapes.specs.GroupLaws.{GroupsAreScopes, FloorsAreScopes, GuardsAreScopes, GroupsFit};
+ghost use Rattle.branch_shapes.specs.GroupBodies.{BodiesArePlaced, BodiesAreSized, BodiesAreWhole};
+ghost use Rattle.branch_shapes.specs.ExtendedWays.{SettledSegmentsBind, BoundSegmentsAreSettled, EmptySegmentsLead};
+ghost use Rattle.branch_shapes.specs.ExtendedWays.{WaysAreExtended, ExtendedWaysAreSettled, BranchesReadBound};
+ghost use Rattle.branch_shapes.specs.ShownBodies.{ShownBodiesRead};
+ghost use Rattle.branch_shapes.specs.ChoiceScopes.{ChoicesAreScopes, ItemsAreNamed, ItemsAreWhole};
+ghost use Rattle.branch_shapes.specs.MeantBranches.{MeantBranchesShow, MeantEntriesAreWhole};
+ghost use Rattle.branch_shapes.specs.GroupedRuns.{GroupedRunsRead};
+ghost use Rattle.branch_shapes.specs.MeantRuns.{MeantRunsShow, MeantRunsFit, MeantRunsRead};
+
+/// A cut that keeps groups is, as a node, to that of the newest of them that is not empty, and one to the floor is to the node
+/// there.
+pub fn groups_are_scopes()
+    ensures groups { GroupsAreScopes }
+    ensures floor { FloorsAreScopes }
+    ensures guards { GuardsAreScopes }
+{}
+
+/// Entries in groups become nodes, one for each group that is not empty.
+pub fn groups_fit_nodes()
+    ensures { GroupsFit }
+{}
+
+/// Bodies that read as the groups make the nodes that the run becomes.
+pub fn bodies_make_nodes()
+    ensures placed { BodiesArePlaced }
+    ensures sized { BodiesAreSized }
+    ensures whole { BodiesAreWhole }
+{}
+
+/// Segments are settled where they bind what some substitution has, and one without bindings leads nowhere else.
+pub fn settled_segments_bind()
+    ensures bind { SettledSegmentsBind }
+    ensures settled { BoundSegmentsAreSettled }
+    ensures empty { EmptySegmentsLead }
+{}
+
+/// The way to a branch whose segments lead on from what is bound above it binds that to which they lead, and the branch reads as
+/// what is left to do on it with that applied.
+pub fn branches_read_bound()
+    ensures extended { WaysAreExtended }
+    ensures settled { ExtendedWaysAreSettled }
+    ensures read { BranchesReadBound }
+{}
+
+/// Bodies whose branches have left to do what the entries of a run are read as these.
+pub fn shown_bodies_read()
+    ensures { ShownBodiesRead }
+{}
+
+/// Scopes that are numbers of choice points are, by the nodes that the groups become, the nodes of these choice points.
+pub fn choices_are_scopes()
+    ensures choices { ChoicesAreScopes }
+    ensures items { ItemsAreNamed }
+    ensures whole { ItemsAreWhole }
+{}
+
+/// A branch whose goals are an entry's items, cutting to the nodes of their choice points, shows that entry.
+pub fn meant_branches_show()
+    ensures show { MeantBranchesShow }
+    ensures whole { MeantEntriesAreWhole }
+{}
+
+/// Bodies that read as the entries to which a run has come can be published.
+pub fn grouped_runs_read()
+    ensures { GroupedRunsRead }
+{}
+
+/// Bodies whose branches have as goals the items of the entries to which a run has come, with the bindings to which their segments
+/// lead, can be published.
+pub fn meant_runs_read()
+    ensures show { MeantRunsShow }
+    ensures fit { MeantRunsFit }
+    ensures read { MeantRunsRead }
+{}
