@@ -9,12 +9,12 @@ use Rattle.tree_model.specs.Shapes.{placed_scope}
 use Rattle.branch_shapes.specs.Groups.{Groups, height_kept, node_sizes, scope_kept}
 use Rattle.branch_shapes.specs.GroupLaws.{IsWholeHeight}
 use Rattle.branch_shapes.specs.ChoiceScopes.{choice_height, choice_scope, CanBeMarked, IsOverChoices, items_by_heights, items_by_nodes}
-use Rattle.branch_shapes.specs.ChoiceScopes.{ChoicesAreScopes, ItemsAreNamed, ItemsAreWhole}
+use Rattle.branch_shapes.specs.ChoiceScopes.{HasNumbersUpTo, ChoicesAreScopes, ItemsAreNamed, ItemsHaveHeights, ItemsAreWhole}
 use Rattle.branch_shapes.proofs.GroupScopeLemmas.{groups_are_scopes, floors_are_scopes, guards_are_scopes}
 
 -- of the floor, or over it
 module _ (floor : ℕ) (gs : Groups) (n : ℕ) where
-  low_height : n ≤ floor → choice_height floor gs n ≡ n
+  pub low_height : n ≤ floor → choice_height floor gs n ≡ n
   low_height le = by_test (nat_le n floor) refl
     where
       by_test : (t : Bool) → nat_le n floor ≡ t → cond t n (height_kept floor gs (n - floor)) ≡ n
@@ -33,7 +33,7 @@ module _ (floor : ℕ) (gs : Groups) (n : ℕ) where
       by_test false q = refl
 
 module _ (next : ℕ) (levels : List Level) (gs : Groups) (n : ℕ) where
-  low_scope : n ≤ length levels → choice_scope next levels gs n ≡ node_of levels n
+  pub low_scope : n ≤ length levels → choice_scope next levels gs n ≡ node_of levels n
   low_scope le = by_test (nat_le n (length levels)) refl
     where
       by_test : (t : Bool) → nat_le n (length levels) ≡ t → cond t (node_of levels n) (scope_kept next levels gs (n - length levels)) ≡ node_of levels n
@@ -99,6 +99,20 @@ choices_are_scopes next levels gs n = cut_named next levels gs n
 
 pub items_are_named : ItemsAreNamed
 items_are_named next levels gs items h = items_named next levels gs items h
+
+module _ (floor : ℕ) (gs : Groups) (n : ℕ) (height : ℕ → ℕ) (same : (c : ℕ) → c ≤ n → height c ≡ choice_height floor gs c) where
+  item_height : (i : Item ℕ) → HasNumbersUpTo n i → renamed_item height height i ≡ renamed_item (choice_height floor gs) (choice_height floor gs) i
+  item_height (GoalItem t c) le = ap (GoalItem t) (same c le)
+  item_height (CatchMark c) le = ap CatchMark (same c le)
+  item_height (CollectMark t c) le = ap (CollectMark t) (same c le)
+  item_height (RemovalItem number) h = refl
+
+  item_heights : (items : List (Item ℕ)) → Each (HasNumbersUpTo n) items → map (renamed_item height height) items ≡ items_by_heights floor gs items
+  item_heights [] h = refl
+  item_heights (i ∷ items) h = ap₂ (λ j js. j ∷ js) (item_height i h.0) (item_heights items h.1)
+
+pub items_have_heights : ItemsHaveHeights
+items_have_heights floor gs n height items same h = item_heights floor gs n height same items h
 
 whole_height : (floor : ℕ) (gs : Groups) (n : ℕ) → IsWholeHeight floor gs (choice_height floor gs n)
 whole_height floor gs n = by_test (nat_le n floor) refl

@@ -1,13 +1,15 @@
 -- The nodes to which cuts are that keep groups.
-use Rattle.std.proofs.Common.{◌≡◌, ℕ, zero, suc, ◌+◌, ◌-◌, ◌<◌, ◌≤◌, Bool, true, false, cond, List, [], ◌∷◌, map, length, take, Some, refl, sym, ap, ◌∙◌, arith}
+use Rattle.std.proofs.Common.{◌≡◌, ℕ, zero, suc, ◌+◌, ◌-◌, ◌<◌, ◌≤◌, Bool, true, false, cond, List, [], ◌∷◌, ◌++◌, map, length, take, Some, refl, sym, ap}
+use Rattle.std.proofs.Common.{◌∙◌, arith}
 use Rattle.std.specs.Prelude.{nat_lt, nat_le, slice_get}
 use Rattle.std.proofs.lemmas.Bool.Decides.{nat_tests}
+use Rattle.std.proofs.lemmas.List.{append-nil, append_assoc, length-append}
 use Rattle.run_model.specs.Machine.Entries.{Entry}
 use Rattle.tree_model.specs.Floors.{node_of}
 use Rattle.tree_model.specs.Levels.{Level}
 use Rattle.tree_model.specs.Shapes.{further, holder, placed_scope}
-use Rattle.branch_shapes.specs.Groups.{Groups, entries_in, height_kept, nonempty_groups, or_alone, node_sizes, newest_node}
-use Rattle.branch_shapes.specs.GroupLaws.{GroupsAreScopes, FloorsAreScopes, GuardsAreScopes}
+use Rattle.branch_shapes.specs.Groups.{Groups, stacked, entries_in, height_kept, nonempty_groups, or_alone, node_sizes, newest_node}
+use Rattle.branch_shapes.specs.GroupLaws.{GroupsAreScopes, FloorsAreScopes, GuardsAreScopes, GroupsStackUp, HeightsCountEntries}
 
 abbrev pub size_of : List Entry → ℕ
 size_of g = suc (length g)
@@ -102,6 +104,20 @@ groups_are_scopes next levels gs c = by_count (length (nonempty_groups (take c g
         let some : length (nonempty_groups gs) ≡ 0 → ⊥ = (λ z. let none = no_groups gs z in let le = kept_within c gs in omega (arith, e)) in
         ap (placed_scope next (node_sizes gs) levels) (height (suc p) e) ∙ (above_kept next (node_sizes gs) levels p
         ∙ (ap (λ hs. holder next (map size_of hs) p) (some_alone (nonempty_groups gs) some) ∙ held next c gs p k (sym e) n))
+
+stacked-append : (older newer : Groups) → stacked (older ++ newer) ≡ stacked newer ++ stacked older
+stacked-append [] newer = sym (append-nil (stacked newer))
+stacked-append (g ∷ older) newer = ap (λ es. es ++ g) (stacked-append older newer) ∙ append_assoc (stacked newer) (stacked older) g
+
+pub groups_stack_up : GroupsStackUp
+groups_stack_up = stacked-append
+
+kept_all : (older newer : Groups) → entries_in (take (length older) (older ++ newer)) ≡ length (stacked older)
+kept_all [] newer = refl
+kept_all (g ∷ older) newer = let rest = kept_all older newer in omega (arith, rest, length-append (stacked older) g)
+
+pub heights_count_entries : HeightsCountEntries
+heights_count_entries floor older newer = ap (λ n. floor + n) (kept_all older newer)
 
 one_more : (gs : Groups) (c : ℕ) (e : Entry) → slice_get gs c ≡ Some (e ∷ []) → suc (entries_in (take c gs)) ≡ entries_in (take (suc c) gs)
 one_more [] c e h = absurd cc

@@ -5,6 +5,7 @@ pub mod SettledSegmentLemmas
 pub mod ExtendedWayLemmas
 pub mod ShownBodyLemmas
 pub mod ChoiceScopeLemmas
+pub mod FloorItemLemmas
 pub mod MeantBranchLemmas
 pub mod GroupedRunLemmas
 pub mod MeantRunLemmas

@@ -51,6 +51,18 @@ ItemsAreNamed = (next : ℕ) (levels : List Level) (gs : Groups) (items : List (
     let name = placed_scope next (node_sizes gs) levels in
     map (renamed_item name (λ h. name (suc h))) (items_by_heights (length levels) gs items) ≡ items_by_nodes next levels gs items
 
+-- an item that has numbers up to one
+abbrev pub HasNumbersUpTo : ℕ → Item ℕ → Type 0
+HasNumbersUpTo n (GoalItem t c) = c ≤ n
+HasNumbersUpTo n (CatchMark c) = c ≤ n
+HasNumbersUpTo n (CollectMark t c) = c ≤ n
+HasNumbersUpTo n (RemovalItem number) = Unit {0}
+
+-- where heights are known otherwise
+abbrev pub ItemsHaveHeights : Type 0
+ItemsHaveHeights = (floor : ℕ) (gs : Groups) (n : ℕ) (height : ℕ → ℕ) (items : List (Item ℕ)) → ((c : ℕ) → c ≤ n → height c ≡ choice_height floor gs c)
+    → Each (HasNumbersUpTo n) items → map (renamed_item height height) items ≡ items_by_heights floor gs items
+
 -- no cut splits a group
 abbrev pub ItemsAreWhole : Type 0
 ItemsAreWhole = (floor : ℕ) (gs : Groups) (items : List (Item ℕ)) → Each (IsWholeHeight floor gs) (cuts_of_items (items_by_heights floor gs items))

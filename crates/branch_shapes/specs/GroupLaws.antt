@@ -1,5 +1,5 @@
 -- Entries in groups fit nodes: to which nodes their cuts are, and that their run has the shape of such nodes.
-use Rattle.std.specs.Prelude.{◌≡◌, ◌⊎◌, ℕ, suc, ◌≤◌, List, [], ◌∷◌, length, true, Some, slice_get}
+use Rattle.std.specs.Prelude.{◌≡◌, ◌⊎◌, ℕ, suc, ◌+◌, ◌≤◌, List, [], ◌∷◌, ◌++◌, length, true, Some, slice_get}
 use Rattle.au_model.specs.Terms.Each.{Each}
 use Rattle.run_model.specs.Machine.Entries.{Entry}
 use Rattle.tree_model.specs.Legality.{run_fits}
@@ -39,6 +39,14 @@ FloorsAreScopes = (next : ℕ) (sizes : List ℕ) (levels : List Level) (h : ℕ
 -- the mark of an entry that is alone in its group is of the node to which a cut is that keeps this group too
 abbrev pub GuardsAreScopes : Type 0
 GuardsAreScopes = (floor : ℕ) (gs : Groups) (c : ℕ) (e : Entry) → slice_get gs c ≡ Some (e ∷ []) → suc (height_kept floor gs c) ≡ height_kept floor gs (suc c)
+
+-- newer groups are over older ones
+abbrev pub GroupsStackUp : Type 0
+GroupsStackUp = (older newer : Groups) → stacked (older ++ newer) ≡ stacked newer ++ stacked older
+
+-- and as many entries are under them
+abbrev pub HeightsCountEntries : Type 0
+HeightsCountEntries = (floor : ℕ) (older newer : Groups) → height_kept floor (older ++ newer) (length older) ≡ floor + length (stacked older)
 
 -- such entries become nodes of these sizes
 abbrev pub GroupsFit : Type 0

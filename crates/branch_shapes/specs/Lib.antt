@@ -4,6 +4,7 @@ pub mod GroupBodies
 pub mod ExtendedWays
 pub mod ShownBodies
 pub mod ChoiceScopes
+pub mod FloorItems
 pub mod MeantBranches
 pub mod GroupedRuns
 pub mod MeantRuns

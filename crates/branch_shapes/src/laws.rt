@@ -1,10 +1,12 @@
 //! Laws of entries in groups: each function does nothing, and its contract is the law.
 ghost use Rattle.branch_shapes.specs.GroupLaws.{GroupsAreScopes, FloorsAreScopes, GuardsAreScopes, GroupsFit};
+ghost use Rattle.branch_shapes.specs.GroupLaws.{GroupsStackUp, HeightsCountEntries};
 ghost use Rattle.branch_shapes.specs.GroupBodies.{BodiesArePlaced, BodiesAreSized, BodiesAreWhole};
 ghost use Rattle.branch_shapes.specs.ExtendedWays.{SettledSegmentsBind, BoundSegmentsAreSettled, EmptySegmentsLead};
 ghost use Rattle.branch_shapes.specs.ExtendedWays.{WaysAreExtended, ExtendedWaysAreSettled, BranchesReadBound};
 ghost use Rattle.branch_shapes.specs.ShownBodies.{ShownBodiesRead};
-ghost use Rattle.branch_shapes.specs.ChoiceScopes.{ChoicesAreScopes, ItemsAreNamed, ItemsAreWhole};
+ghost use Rattle.branch_shapes.specs.ChoiceScopes.{ChoicesAreScopes, ItemsAreNamed, ItemsHaveHeights, ItemsAreWhole};
+ghost use Rattle.branch_shapes.specs.FloorItems.{FloorItemsStay, ScopedItemsNameLevels};
 ghost use Rattle.branch_shapes.specs.MeantBranches.{MeantBranchesShow, MeantEntriesAreWhole};
 ghost use Rattle.branch_shapes.specs.GroupedRuns.{GroupedRunsRead};
 ghost use Rattle.branch_shapes.specs.MeantRuns.{MeantRunsShow, MeantRunsFit, MeantRunsRead};
@@ -15,6 +17,12 @@ pub fn groups_are_scopes()
     ensures groups { GroupsAreScopes }
     ensures floor { FloorsAreScopes }
     ensures guards { GuardsAreScopes }
+{}
+
+/// Newer groups are over older ones, and the height that keeps all older ones is the number of their entries over the floor.
+pub fn groups_stack_up()
+    ensures stack { GroupsStackUp }
+    ensures heights { HeightsCountEntries }
 {}
 
 /// Entries in groups become nodes, one for each group that is not empty.
@@ -53,7 +61,14 @@ pub fn shown_bodies_read()
 pub fn choices_are_scopes()
     ensures choices { ChoicesAreScopes }
     ensures items { ItemsAreNamed }
+    ensures heights { ItemsHaveHeights }
     ensures whole { ItemsAreWhole }
+{}
+
+/// Items that name nodes of the branch, as those of a sound tree do, have numbers of its floor, and name these nodes again.
+pub fn floor_items_stay()
+    ensures stay { FloorItemsStay }
+    ensures scoped { ScopedItemsNameLevels }
 {}
 
 /// A branch whose goals are an entry's items, cutting to the nodes of their choice points, shows that entry.
