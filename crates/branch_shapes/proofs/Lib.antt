@@ -7,5 +7,6 @@ pub mod ShownBodyLemmas
 pub mod ChoiceScopeLemmas
 pub mod FloorItemLemmas
 pub mod MeantBranchLemmas
+pub mod MeantBodyLemmas
 pub mod GroupedRunLemmas
 pub mod MeantRunLemmas

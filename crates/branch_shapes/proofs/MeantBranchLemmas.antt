@@ -1,19 +1,17 @@
 -- Branches whose goals are the items of entries.
-use Rattle.std.proofs.Common.{◌≡◌, ℕ, suc, ◌==◌, Bool, true, false, cond, List, [], ◌∷◌, length, map, refl, sym, ap, ap₂, ◌∙◌, subst}
+use Rattle.std.proofs.Common.{◌≡◌, ℕ, suc, ◌==◌, Bool, true, false, cond, List, [], ◌∷◌, map, refl, sym, ap, ap₂, ◌∙◌, subst}
 use Rattle.au_model.specs.Terms.Each.{Each}
-use Rattle.au_model.specs.Terms.Named.{NamedTerm}
 use Rattle.au_model.specs.Terms.Substitutions.{Substitution}
+use Rattle.clause_compile.specs.declared.event.Branch.{Branch}
 use Rattle.run_model.specs.Machine.Entries.{Entry, PlainEntry}
 use Rattle.run_model.specs.Machine.Items.{Item, GoalItem, CatchMark, CollectMark, RemovalItem, Continuation, resolve_item, resolve_continuation}
 use Rattle.tree_model.specs.Floors.{renamed_item, renamed_continuation, with_nodes}
-use Rattle.tree_model.specs.Levels.{Level}
-use Rattle.tree_model.specs.Shapes.{cuts_of_items, cuts_of_entry, placed_scope}
-use Rattle.tree_nodes.specs.Bodies.{BodyKind, ChoiceBody, ConditionBody, CatchBody, FindallBody, QueryBody, Body}
+use Rattle.tree_model.specs.Shapes.{cuts_of_items, cuts_of_entry}
+use Rattle.tree_nodes.specs.Bodies.{BodyKind, ChoiceBody, ConditionBody, CatchBody, FindallBody, QueryBody}
 use Rattle.branch_reading.specs.Readings.{guard_meant, entry_beside}
-use Rattle.branch_shapes.specs.Groups.{Groups, node_sizes}
-use Rattle.branch_shapes.specs.GroupLaws.{IsWholeHeight}
+use Rattle.branch_shapes.specs.GroupLaws.{IsWholeHeight, HasWholeCuts}
 use Rattle.branch_shapes.specs.ExtendedWays.{number_after, continuation_of}
-use Rattle.branch_shapes.specs.MeantBranches.{continuation_over, BranchMeans, MeantBranchesShow, MeantEntriesAreWhole}
+use Rattle.branch_shapes.specs.MeantBranches.{Placement, floor_in, scope_in, continuation_in, GoalsMean, MeantBranchesShow, MeantEntriesAreWhole}
 use Rattle.branch_shapes.proofs.ChoiceScopeLemmas.{items_are_named, items_are_whole}
 
 -- names and bindings are of different parts of an item
@@ -74,38 +72,38 @@ beside_cuts kind i s f = by_test (i == 1)
     by_test true = guard_cuts kind s f
     by_test false = refl
 
-module _ (named : List NamedTerm) (number : ℕ) (levels : List Level) (gs : Groups) (there : Substitution) (b : Body) (i : ℕ) (e : Entry)
-    (h : BranchMeans named number levels gs there b i e) where
+module _ (p : Placement) (before : Substitution) (next : ℕ) (kind : BodyKind) (i : ℕ) (branch : Branch) (e : Entry)
+    (h : GoalsMean p before next kind i branch e) where
   abbrev name : ℕ → ℕ
-  name = placed_scope number (node_sizes gs) levels
+  name = scope_in p
 
   abbrev over : Continuation ℕ
-  over = continuation_over (length levels) gs named (number_after h.branch.segment) h.items
+  over = continuation_in p (number_after branch.segment) h.items
 
-  named_is : continuation_of named h.branch ≡ renamed_continuation name (λ k. name (suc k)) over
-  named_is = ap (λ items. (let g : Continuation ℕ = record { items = items; named = named; next = number_after h.branch.segment } in g))
-      (h.goals ∙ sym (items_are_named number levels gs h.items h.over))
+  named_is : continuation_of p.named branch ≡ renamed_continuation name (λ k. name (suc k)) over
+  named_is = ap (λ items. (let g : Continuation ℕ = record { items = items; named = p.named; next = number_after branch.segment } in g))
+      (h.goals ∙ sym (items_are_named p.number p.levels p.groups h.items h.over))
 
-  pub branch_means : entry_beside b.kind i h.now (resolve_continuation h.now (continuation_of named h.branch)) ≡ with_nodes name e
-  branch_means =
-      ap (λ f. entry_beside b.kind i h.now (resolve_continuation h.now f)) named_is
-      ∙ (ap (entry_beside b.kind i h.now) (sym (continuation_apart name (λ k. name (suc k)) h.now over))
-      ∙ (sym (beside_named name h.now b.kind i (resolve_continuation h.now over)) ∙ ap (with_nodes name) (sym h.means)))
+  pub goals_show : entry_beside kind i h.now (resolve_continuation h.now (continuation_of p.named branch)) ≡ with_nodes name e
+  goals_show =
+      ap (λ f. entry_beside kind i h.now (resolve_continuation h.now f)) named_is
+      ∙ (ap (entry_beside kind i h.now) (sym (continuation_apart name (λ k. name (suc k)) h.now over))
+      ∙ (sym (beside_named name h.now kind i (resolve_continuation h.now over)) ∙ ap (with_nodes name) (sym h.means)))
 
-  pub cuts_whole : Each (IsWholeHeight (length levels) gs) (cuts_of_entry e)
-  cuts_whole = subst (λ cuts. Each (IsWholeHeight (length levels) gs) cuts)
-      (sym (ap cuts_of_entry h.means ∙ (beside_cuts b.kind i h.now (resolve_continuation h.now over) ∙ cuts_stay h.now over.items)))
-      (items_are_whole (length levels) gs h.items)
+  pub cuts_whole : HasWholeCuts (floor_in p) p.groups e
+  cuts_whole = subst (λ cuts. Each (IsWholeHeight (floor_in p) p.groups) cuts)
+      (sym (ap cuts_of_entry h.means ∙ (beside_cuts kind i h.now (resolve_continuation h.now over) ∙ cuts_stay h.now over.items)))
+      (items_are_whole (floor_in p) p.groups h.items)
 
 pub meant_branches_show : MeantBranchesShow
-meant_branches_show named number levels gs there b i e h = record {
-  now = h.now;
+meant_branches_show p there b i e h = record {
+  now = h.goals.now;
   branch = h.branch;
   is = h.is;
-  leads = h.leads;
-  below = h.below;
-  means = branch_means named number levels gs there b i e h;
+  leads = h.goals.leads;
+  below = h.goals.below;
+  means = goals_show p there (number_after b.segment) b.kind i h.branch e h.goals;
 }
 
 pub meant_entries_are_whole : MeantEntriesAreWhole
-meant_entries_are_whole named number levels gs there b i e h = cuts_whole named number levels gs there b i e h
+meant_entries_are_whole p there b i e h = cuts_whole p there (number_after b.segment) b.kind i h.branch e h.goals

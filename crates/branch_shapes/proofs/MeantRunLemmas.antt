@@ -6,21 +6,21 @@ use Rattle.au_model.specs.Terms.Substitutions.{Substitution}
 use Rattle.run_model.specs.Machine.Entries.{Entry}
 use Rattle.run_model.specs.Programs.Jobs.{Job}
 use Rattle.tree_model.specs.Levels.{Level, Spot, levels_of}
-use Rattle.tree_model.specs.Shapes.{is_alone, placed_scope}
+use Rattle.tree_model.specs.Shapes.{is_alone}
 use Rattle.tree_model.specs.TreeStates.{TreeState}
 use Rattle.tree_nodes.specs.Bodies.{Body, Branching}
 use Rattle.tree_nodes.specs.Rows.{StoredNode, Rows}
 use Rattle.tree_nodes.specs.TreeTables.{IsWayTo}
 use Rattle.branch_reading.specs.BranchSegments.{segments_on, next_number}
-use Rattle.branch_reading.specs.Readings.{query_on, named_of, reading}
+use Rattle.branch_reading.specs.Readings.{reading}
 use Rattle.public_tree.specs.Publishing.{AreWhole, body_sizes}
-use Rattle.branch_shapes.specs.Groups.{Groups, nonempty_groups, or_alone, node_groups, node_sizes}
+use Rattle.branch_shapes.specs.Groups.{Groups, nonempty_groups, or_alone, node_groups}
 use Rattle.branch_shapes.specs.GroupLaws.{HasWholeCuts}
 use Rattle.branch_shapes.specs.GroupBodies.{ReadAsRun}
 use Rattle.branch_shapes.specs.ExtendedWays.{number_after}
 use Rattle.branch_shapes.specs.GroupedRuns.{RunsToGroups}
-use Rattle.branch_shapes.specs.MeantBranches.{BranchMeans}
-use Rattle.branch_shapes.specs.MeantRuns.{RunIsMeant, MeantRunsShow, MeantRunsFit, MeantRunsRead}
+use Rattle.branch_shapes.specs.MeantBranches.{floor_in, scope_in, BranchMeans}
+use Rattle.branch_shapes.specs.MeantRuns.{placement_at, RunIsMeant, MeantRunsShow, MeantRunsFit, MeantRunsRead}
 use Rattle.branch_shapes.specs.ShownBodies.{Showing, BranchShows, BodyShows, BodiesShow, AllShow}
 use Rattle.branch_shapes.proofs.GroupBodyLemmas.{whole_by}
 use Rattle.branch_shapes.proofs.GroupScopeLemmas.{size_of}
@@ -57,9 +57,9 @@ module _ (more less : Showing) (as_well : (there : Substitution) (b : Body) (i :
 
 pub meant_runs_show : MeantRunsShow
 meant_runs_show job way before number levels bodies current gs h =
-    let named = named_of (query_on job way) in
-    all_as_well (BranchMeans named number levels gs) (BranchShows named (placed_scope number (node_sizes gs) levels))
-    (λ there b i e k. meant_branches_show named number levels gs there b i e k) current (next_number (segments_on way)) before bodies (node_groups gs) h
+    let p = placement_at job way number levels gs in
+    all_as_well (BranchMeans p) (BranchShows p.named (scope_in p)) (λ there b i e k. meant_branches_show p there b i e k) current
+    (next_number (segments_on way)) before bodies (node_groups gs) h
 
 -- what holds of each entry that a branch stands for holds of all entries of groups
 each_indexed : {X : Type 0} (P : X → Type 0) (xs : List X) → ((i : ℕ) (x : X) → slice_get xs i ≡ Some x → P x) → Each P xs
@@ -118,12 +118,13 @@ each_group : (P : List Entry → Type 0) → P [] → (gs : Groups) → Each P (
 each_group P none gs h = each_nonempty P none gs (each_of_some P (nonempty_groups gs) h)
 
 pub meant_runs_fit : MeantRunsFit
-meant_runs_fit named next before number levels bodies current gs h =
-    let shown = all_are_shown (BranchMeans named number levels gs) (HasWholeCuts (length levels) gs)
-    (λ there b i e k. meant_entries_are_whole named number levels gs there b i e k) current next before bodies (node_groups gs) h in (
+meant_runs_fit p next before bodies current h =
+    let gs = p.groups in
+    let shown = all_are_shown (BranchMeans p) (HasWholeCuts (floor_in p) gs) (λ there b i e k. meant_entries_are_whole p there b i e k) current next before
+    bodies (node_groups gs) h in (
       record {
         on_top = shown.on_top;
-        whole = each_group (λ g. Each (HasWholeCuts (length levels) gs) g) tt gs shown.entries;
+        whole = each_group (λ g. Each (HasWholeCuts (floor_in p) gs) g) tt gs shown.entries;
         alone = each_group (λ g. is_alone g ≡ true) refl gs shown.alone;
       },
       shown.sized,
@@ -146,8 +147,7 @@ module _ (job : Job) (rows : Rows) (bodies : List Body) (k : ℕ) (t : TreeState
 
   pub run_to_groups : RunsToGroups rows bodies k (reading job) t s
   run_to_groups =
-      let fit = meant_runs_fit (named_of (query_on job h.way)) (next_number (segments_on h.way)) h.before t.next
-      (levels_of s) bodies h.current h.groups h.means in
+      let fit = meant_runs_fit (placement_at job h.way t.next (levels_of s) h.groups) (next_number (segments_on h.way)) h.before bodies h.current h.means in
       record {
         current = h.current;
         groups = h.groups;

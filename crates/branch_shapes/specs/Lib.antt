@@ -6,5 +6,6 @@ pub mod ShownBodies
 pub mod ChoiceScopes
 pub mod FloorItems
 pub mod MeantBranches
+pub mod MeantBodies
 pub mod GroupedRuns
 pub mod MeantRuns

@@ -1,6 +1,5 @@
 -- Bodies that can be published: the goals of their branches are those of the entries to which a private run has come.
-use Rattle.std.specs.Prelude.{◌≡◌, ℕ, List, ◌∷◌, length, Some}
-use Rattle.au_model.specs.Terms.Named.{NamedTerm}
+use Rattle.std.specs.Prelude.{◌≡◌, ℕ, List, ◌∷◌, Some}
 use Rattle.au_model.specs.Terms.Substitutions.{Substitution}
 use Rattle.run_model.specs.Machine.Entries.{Entry}
 use Rattle.run_model.specs.Programs.Jobs.{Job}
@@ -17,24 +16,27 @@ use Rattle.branch_shapes.specs.Groups.{Groups, stacked, node_groups, node_sizes}
 use Rattle.branch_shapes.specs.GroupLaws.{CanBeNodes}
 use Rattle.branch_shapes.specs.ExtendedWays.{WayBinds}
 use Rattle.branch_shapes.specs.ShownBodies.{AllShow, ShowRun}
-use Rattle.branch_shapes.specs.MeantBranches.{BranchMeans}
+use Rattle.branch_shapes.specs.MeantBranches.{Placement, floor_in, BranchMeans}
 
--- bodies for entries in groups above levels, as nodes with numbers from one on: on the branch these bindings were made of variables
--- below a next number, and its query has these named terms
-abbrev pub MeanRun : List NamedTerm → ℕ → Substitution → ℕ → List Level → List Body → Entry → Groups → Type 0
-MeanRun named next before number levels bodies current gs = AllShow (BranchMeans named number levels gs) current next before bodies (node_groups gs)
+-- bodies for groups, below a branch on which these bindings were made of variables below a number, the first branch of the innermost one
+-- for the entry on top
+abbrev pub MeanRun : Placement → ℕ → Substitution → List Body → Entry → Type 0
+MeanRun p next before bodies current = AllShow (BranchMeans p) current next before bodies (node_groups p.groups)
+
+-- below a way to levels, as nodes with numbers from one on
+abbrev pub placement_at : Job → Branching → ℕ → List Level → Groups → Placement
+placement_at job way number levels gs = record { groups = gs; levels = levels; number = number; named = named_of (query_on job way) }
 
 -- they show the run
 abbrev pub MeantRunsShow : Type 0
 MeantRunsShow = (job : Job) (way : Branching) (before : Substitution) (number : ℕ) (levels : List Level) (bodies : List Body) (current : Entry) (gs : Groups)
-    → MeanRun (named_of (query_on job way)) (next_number (segments_on way)) before number levels bodies current gs
+    → MeanRun (placement_at job way number levels gs) (next_number (segments_on way)) before bodies current
     → ShowRun job way before number levels bodies current gs
 
 -- the entries can become nodes of their sizes, and they are whole
 abbrev pub MeantRunsFit : Type 0
-MeantRunsFit = (named : List NamedTerm) (next : ℕ) (before : Substitution) (number : ℕ) (levels : List Level) (bodies : List Body) (current : Entry)
-    (gs : Groups) → MeanRun named next before number levels bodies current gs
-    → CanBeNodes (length levels) current gs × (body_sizes bodies ≡ node_sizes gs) × AreWhole bodies
+MeantRunsFit = (p : Placement) (next : ℕ) (before : Substitution) (bodies : List Body) (current : Entry) → MeanRun p next before bodies current
+    → CanBeNodes (floor_in p) current p.groups × (body_sizes bodies ≡ node_sizes p.groups) × AreWhole bodies
 
 -- after so many inferences a run has come to entries in groups, which bodies mean below its branch
 pub record RunIsMeant (job : Job) (rows : Rows) (bodies : List Body) (k : ℕ) (t : TreeState) (s : Spot) : Type 0 where
@@ -45,7 +47,7 @@ pub record RunIsMeant (job : Job) (rows : Rows) (bodies : List Body) (k : ℕ) (
   pub path : IsWayTo rows (levels_of s) way
   pub before : Substitution
   pub binds : WayBinds way before
-  pub means : MeanRun (named_of (query_on job way)) (next_number (segments_on way)) before t.next (levels_of s) bodies current groups
+  pub means : MeanRun (placement_at job way t.next (levels_of s) groups) (next_number (segments_on way)) before bodies current
 
 -- so they can be published
 abbrev pub MeantRunsRead : Type 0

@@ -8,6 +8,7 @@ ghost use Rattle.branch_shapes.specs.ShownBodies.{ShownBodiesRead};
 ghost use Rattle.branch_shapes.specs.ChoiceScopes.{ChoicesAreScopes, ItemsAreNamed, ItemsHaveHeights, ItemsAreWhole};
 ghost use Rattle.branch_shapes.specs.FloorItems.{FloorItemsStay, ScopedItemsNameLevels};
 ghost use Rattle.branch_shapes.specs.MeantBranches.{MeantBranchesShow, MeantEntriesAreWhole};
+ghost use Rattle.branch_shapes.specs.MeantBodies.{MeantBodiesShow};
 ghost use Rattle.branch_shapes.specs.GroupedRuns.{GroupedRunsRead};
 ghost use Rattle.branch_shapes.specs.MeantRuns.{MeantRunsShow, MeantRunsFit, MeantRunsRead};
 
@@ -71,10 +72,12 @@ pub fn floor_items_stay()
     ensures scoped { ScopedItemsNameLevels }
 {}
 
-/// A branch whose goals are an entry's items, cutting to the nodes of their choice points, shows that entry.
+/// A branch whose goals are an entry's items, cutting to the nodes of their choice points, shows that entry, and a body whose further
+/// branches are such shows a group.
 pub fn meant_branches_show()
     ensures show { MeantBranchesShow }
     ensures whole { MeantEntriesAreWhole }
+    ensures bodies { MeantBodiesShow }
 {}
 
 /// Bodies that read as the entries to which a run has come can be published.
