@@ -18,9 +18,10 @@ use Rattle.branch_reading.specs.BranchSegments.{binding_equations, bindings_on, 
 use Rattle.branch_reading.specs.SettledWays.{is_term_below, is_bound_back, is_binding_settled, binds_variable, are_bound_once}
 use Rattle.branch_bindings.specs.Extensions.{ExtendsBy}
 use Rattle.branch_bindings.specs.ExtensionLaws.{written_equations, IsFallingEquation, BindApart, AreSettledBindings}
-use Rattle.branch_bindings.proofs.ExtensionLemmas.{nothing_extends}
+use Rattle.branch_bindings.proofs.ExtensionLemmas.{extensions_compose, nothing_extends}
 use Rattle.branch_bindings.proofs.SettledExtensionLemmas.{settled_bindings_extend}
-use Rattle.branch_shapes.specs.ExtendedWays.{written_on, number_after, SegmentsBind, LeadsOn, SettledSegmentsBind, BoundSegmentsAreSettled, EmptySegmentsLead}
+use Rattle.branch_shapes.specs.ExtendedWays.{written_on, number_after, SegmentsBind, LeadsOn, SettledSegmentsBind, BoundSegmentsAreSettled}
+use Rattle.branch_shapes.specs.ExtendedWays.{EmptySegmentsLead, SegmentsJoin}
 
 -- one binding
 back_older : (v : ℕ) (t : Term) → is_bound_back v t ≡ true → (w : ℕ) → t ≡ VarTerm w → w < v
@@ -132,3 +133,15 @@ empty_segments_lead s next segment final none le = record {
   extends = subst (λ bs. ExtendsBy s s (number_after segment) bs) (sym (ap (λ bs. map (λ b. (b.var, b.value)) bs) none))
       (nothing_extends s (number_after segment) final);
 }
+
+pub segments_join : SegmentsJoin
+segments_join a b c next first second joined older h k bindings number =
+    let written : written_on first ++ written_on second ≡ written_on joined =
+    sym (map-append (λ b. (b.var, b.value)) first.bindings second.bindings) ∙ sym (ap (λ bs. map (λ b. (b.var, b.value)) bs) bindings) in
+    let numbers = k.numbers in
+    let first_numbers = h.numbers in
+    record {
+      numbers = omega (arith, numbers, first_numbers, number);
+      extends = subst (λ n. ExtendsBy a c n (written_on joined)) (sym number) (subst (ExtendsBy a c (number_after second)) written
+          (extensions_compose a b c (number_after first) (number_after second) (written_on first) (written_on second) older h.extends k.extends k.numbers));
+    }

@@ -1,5 +1,5 @@
 -- What a branch of new bodies reads as, by the bindings that were made further on it.
-use Rattle.std.specs.Prelude.{◌≡◌, ℕ, ◌+◌, ◌≤◌, true, List, [], ◌∷◌, map, Some, slice_get}
+use Rattle.std.specs.Prelude.{◌≡◌, ℕ, ◌+◌, ◌≤◌, true, List, [], ◌∷◌, ◌++◌, map, Some, slice_get}
 use Rattle.au_term.specs.declared.segment.Segment.{Segment}
 use Rattle.au_model.specs.Terms.MostGeneral.{SameValues}
 use Rattle.au_model.specs.Terms.Named.{NamedTerm}
@@ -12,7 +12,7 @@ use Rattle.branch_reading.specs.BranchSegments.{segments_on, binding_equations, 
 use Rattle.branch_reading.specs.SettledWays.{are_segments_settled, is_branch_settled, is_way_settled}
 use Rattle.branch_reading.specs.Readings.{query_on, named_of, items_meant, entry_beside, reading}
 use Rattle.branch_bindings.specs.Extensions.{WrittenBindings, ExtendsBy}
-use Rattle.branch_bindings.specs.ExtensionLaws.{IsFinal, AreSettledBindings}
+use Rattle.branch_bindings.specs.ExtensionLaws.{StandsForOlder, IsFinal, AreSettledBindings}
 
 -- what a segment binds, and the next number after it
 abbrev pub written_on : Segment → WrittenBindings
@@ -84,3 +84,9 @@ BranchesReadBound = (job : Job) (before there now : Substitution) (way : Branchi
 abbrev pub EmptySegmentsLead : Type 0
 EmptySegmentsLead = (s : Substitution) (next : ℕ) (segment : Segment) → IsFinal s → segment.bindings ≡ [] → next ≤ number_after segment
     → LeadsOn s s next segment
+
+-- one with the bindings of two leads as far as both
+abbrev pub SegmentsJoin : Type 0
+SegmentsJoin = (a b c : Substitution) (next : ℕ) (first second joined : Segment) → StandsForOlder a → LeadsOn a b next first
+    → LeadsOn b c (number_after first) second → joined.bindings ≡ first.bindings ++ second.bindings → number_after joined ≡ number_after second
+    → LeadsOn a c next joined

@@ -2,7 +2,7 @@
 ghost use Rattle.branch_shapes.specs.GroupLaws.{GroupsAreScopes, FloorsAreScopes, GuardsAreScopes, GroupsFit};
 ghost use Rattle.branch_shapes.specs.GroupLaws.{GroupsStackUp, HeightsCountEntries};
 ghost use Rattle.branch_shapes.specs.GroupBodies.{BodiesArePlaced, BodiesAreSized, BodiesAreWhole};
-ghost use Rattle.branch_shapes.specs.ExtendedWays.{SettledSegmentsBind, BoundSegmentsAreSettled, EmptySegmentsLead};
+ghost use Rattle.branch_shapes.specs.ExtendedWays.{SettledSegmentsBind, BoundSegmentsAreSettled, EmptySegmentsLead, SegmentsJoin};
 ghost use Rattle.branch_shapes.specs.ExtendedWays.{WaysAreExtended, ExtendedWaysAreSettled, BranchesReadBound};
 ghost use Rattle.branch_shapes.specs.ShownBodies.{ShownBodiesRead};
 ghost use Rattle.branch_shapes.specs.ChoiceScopes.{ChoicesAreScopes, ItemsAreNamed, ItemsHaveHeights, ItemsAreWhole};
@@ -38,11 +38,13 @@ pub fn bodies_make_nodes()
     ensures whole { BodiesAreWhole }
 {}
 
-/// Segments are settled where they bind what some substitution has, and one without bindings leads nowhere else.
+/// Segments are settled where they bind what some substitution has. One without bindings leads nowhere else, and one with the
+/// bindings of two leads as far as both.
 pub fn settled_segments_bind()
     ensures bind { SettledSegmentsBind }
     ensures settled { BoundSegmentsAreSettled }
     ensures empty { EmptySegmentsLead }
+    ensures join { SegmentsJoin }
 {}
 
 /// The way to a branch whose segments lead on from what is bound above it binds that to which they lead, and the branch reads as
