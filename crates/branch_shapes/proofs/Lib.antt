@@ -10,3 +10,4 @@ pub mod MeantBranchLemmas
 pub mod MeantBodyLemmas
 pub mod GroupedRunLemmas
 pub mod MeantRunLemmas
+pub mod ShapedBodyLemmas

@@ -9,3 +9,4 @@ pub mod MeantBranches
 pub mod MeantBodies
 pub mod GroupedRuns
 pub mod MeantRuns
+pub mod ShapedBodies

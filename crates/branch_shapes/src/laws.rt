@@ -10,6 +10,7 @@ ghost use Rattle.branch_shapes.specs.FloorItems.{FloorItemsStay, ScopedItemsName
 ghost use Rattle.branch_shapes.specs.MeantBranches.{MeantBranchesShow, MeantEntriesAreWhole};
 ghost use Rattle.branch_shapes.specs.MeantBodies.{MeantBodiesShow};
 ghost use Rattle.branch_shapes.specs.GroupedRuns.{GroupedRunsRead};
+ghost use Rattle.branch_shapes.specs.ShapedBodies.{ShapedBodiesMean};
 ghost use Rattle.branch_shapes.specs.MeantRuns.{MeantRunsShow, MeantRunsFit, MeantRunsRead};
 
 /// A cut that keeps groups is, as a node, to that of the newest of them that is not empty, and one to the floor is to the node
@@ -93,4 +94,9 @@ pub fn meant_runs_read()
     ensures show { MeantRunsShow }
     ensures fit { MeantRunsFit }
     ensures read { MeantRunsRead }
+{}
+
+/// The bodies that are made of what choice points have left, the oldest first, mean the entries for which these stand.
+pub fn shaped_bodies_mean()
+    ensures { ShapedBodiesMean }
 {}
