@@ -11,3 +11,4 @@ pub mod MeantBodyLemmas
 pub mod GroupedRunLemmas
 pub mod MeantRunLemmas
 pub mod ShapedBodyLemmas
+pub mod ShapedRunLemmas

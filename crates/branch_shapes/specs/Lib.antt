@@ -10,3 +10,4 @@ pub mod MeantBodies
 pub mod GroupedRuns
 pub mod MeantRuns
 pub mod ShapedBodies
+pub mod ShapedRuns

@@ -11,6 +11,7 @@ ghost use Rattle.branch_shapes.specs.MeantBranches.{MeantBranchesShow, MeantEntr
 ghost use Rattle.branch_shapes.specs.MeantBodies.{MeantBodiesShow};
 ghost use Rattle.branch_shapes.specs.GroupedRuns.{GroupedRunsRead};
 ghost use Rattle.branch_shapes.specs.ShapedBodies.{ShapedBodiesMean};
+ghost use Rattle.branch_shapes.specs.ShapedRuns.{ShapedRunsRead};
 ghost use Rattle.branch_shapes.specs.MeantRuns.{MeantRunsShow, MeantRunsFit, MeantRunsRead};
 
 /// A cut that keeps groups is, as a node, to that of the newest of them that is not empty, and one to the floor is to the node
@@ -96,7 +97,9 @@ pub fn meant_runs_read()
     ensures read { MeantRunsRead }
 {}
 
-/// The bodies that are made of what choice points have left, the oldest first, mean the entries for which these stand.
+/// The bodies that are made of what choice points have left, the oldest first, mean the entries for which these stand, and can be
+/// published where these are the entries of a run.
 pub fn shaped_bodies_mean()
-    ensures { ShapedBodiesMean }
+    ensures mean { ShapedBodiesMean }
+    ensures read { ShapedRunsRead }
 {}
