@@ -35,7 +35,8 @@ abbrev pub ComesBefore : Substitution → ℕ → ℕ → Type 0
 ComesBefore s w v = (size (value_of s w) < size (value_of s v)) ⊎ ((size (value_of s w) ≤ size (value_of s v)) × (w < v))
 
 -- as each variable of what v is bound to
-pub inside_before : (s : Substitution) (v w : ℕ) (t : Term) → value_of s v ≡ resolve s t → ((u : ℕ) → t ≡ VarTerm u → u < v) → occurs w t ≡ true → ComesBefore s w v
+pub inside_before : (s : Substitution) (v w : ℕ) (t : Term) → value_of s v ≡ resolve s t → ((u : ℕ) → t ≡ VarTerm u → u < v) → occurs w t ≡ true
+    → ComesBefore s w v
 inside_before s v w (VarTerm u) e older o =
     let same : w ≡ u = eqb-true w u o in
     let as_much : size (value_of s w) ≡ size (value_of s v) = ap (λ n. size (value_of s n)) same ∙ sym (ap size e) in
@@ -48,7 +49,8 @@ inside_before s v w (Compound f ts) e older o = inl (omega (arith, ap size e, si
 module _ (s : Substitution) (P : ℕ → Type 0) (step : (v : ℕ) → ((w : ℕ) → ComesBefore s w v → P w) → P v) where
   of_size : (m : ℕ) → ((w : ℕ) → size (value_of s w) < m → P w) → (k v : ℕ) → size (value_of s v) ≤ m → v < k → P v
   of_size m less zero v le lt = absurd (omega arith)
-  of_size m less (suc k) v le lt = step v (λ w b. elim b [ inl h ↦ less w (omega arith) | inr h ↦ of_size m less k w (omega (arith, h.0)) (omega (arith, h.1)) ])
+  of_size m less (suc k) v le lt = step v
+      (λ w b. elim b [ inl h ↦ less w (omega arith) | inr h ↦ of_size m less k w (omega (arith, h.0)) (omega (arith, h.1)) ])
 
   to_size : (m v : ℕ) → size (value_of s v) < m → P v
   to_size zero v lt = absurd (omega arith)

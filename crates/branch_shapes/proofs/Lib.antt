@@ -1,0 +1,14 @@
+pub mod GroupScopeLemmas
+pub mod GroupShapeLemmas
+pub mod GroupBodyLemmas
+pub mod SettledSegmentLemmas
+pub mod ExtendedWayLemmas
+pub mod ShownBodyLemmas
+pub mod ChoiceScopeLemmas
+pub mod FloorItemLemmas
+pub mod MeantBranchLemmas
+pub mod MeantBodyLemmas
+pub mod GroupedRunLemmas
+pub mod MeantRunLemmas
+pub mod ShapedBodyLemmas
+pub mod ShapedRunLemmas

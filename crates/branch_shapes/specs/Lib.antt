@@ -1,0 +1,13 @@
+pub mod Groups
+pub mod GroupLaws
+pub mod GroupBodies
+pub mod ExtendedWays
+pub mod ShownBodies
+pub mod ChoiceScopes
+pub mod FloorItems
+pub mod MeantBranches
+pub mod MeantBodies
+pub mod GroupedRuns
+pub mod MeantRuns
+pub mod ShapedBodies
+pub mod ShapedRuns
