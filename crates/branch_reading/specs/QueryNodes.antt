@@ -10,7 +10,8 @@ use Rattle.tree_model.specs.TreeStates.{opened_node}
 use Rattle.tree_nodes.specs.Bodies.{Body, QueryBody, Branching, new_node}
 use Rattle.tree_nodes.specs.Rows.{StoredNode, Rows, row_of_node}
 use Rattle.tree_closing.specs.Closings.{ReadsWoken}
-use Rattle.branch_reading.specs.Readings.{queries_on, reading, branch_items}
+use Rattle.branch_reading.specs.SettledWays.{branch_items}
+use Rattle.branch_reading.specs.Readings.{queries_on, reading}
 
 -- goals in which a cut cuts to this node
 abbrev pub goals_in : ℕ → List Term → List BranchItem

@@ -1,55 +1,18 @@
 -- What an alternative of the shared tree reads as: what is left to do on its branch, by what the nodes on the way down to it
 -- were made from (Warren 1987).
-use Rattle.std.specs.Prelude.{ℕ, ◌+◌, ◌==◌, cond, List, [], ◌∷◌, ◌++◌, map, Option, Some, None, slice_get}
+use Rattle.std.specs.Prelude.{ℕ, ◌+◌, ◌==◌, Bool, cond, List, [], ◌∷◌, Option, Some, None, slice_get}
 use Rattle.au_term.specs.Term.{VarTerm}
-use Rattle.au_term.specs.declared.segment.Binding.{Binding}
-use Rattle.au_term.specs.declared.segment.Segment.{Segment}
 use Rattle.au_model.specs.Terms.Named.{NamedTerm}
 use Rattle.au_model.specs.Terms.Substitutions.{Substitution, resolve}
-use Rattle.au_model.specs.Terms.Unifier.{Equations, unifier}
 use Rattle.run_model.specs.Machine.Items.{Item, GoalItem, CatchMark, CollectMark, RemovalItem, Continuation, resolve_continuation}
 use Rattle.run_model.specs.Machine.Entries.{Entry, PlainEntry, CatchEntry, FindallEntry, EndEntry}
 use Rattle.run_model.specs.Programs.Jobs.{Query, Job, own_terms}
-use Rattle.clause_compile.specs.declared.event.Branch.{Branch}
 use Rattle.clause_compile.specs.declared.item.Item.{Item as BranchItem}
 use Rattle.clause_compile.specs.declared.item.Item.TheVariants.{Goal, CatchEnd, Collect, Remove, End}
 use Rattle.tree_nodes.specs.Bodies.{BodyKind, ChoiceBody, ConditionBody, CatchBody, FindallBody, QueryBody, Branching, Reading}
 use Rattle.tree_nodes.specs.Rows.{scope_number}
-
--- each query's variables are numbered from 0: nothing above its node binds one
-abbrev pub above_in_query : BodyKind → List Segment → List Segment
-above_in_query ChoiceBody above = above
-above_in_query ConditionBody above = above
-above_in_query (CatchBody catcher recovery) above = above
-above_in_query (FindallBody results list) above = above
-above_in_query QueryBody above = []
-
-abbrev pub own_segments : Option Branch → List Segment
-own_segments None = []
-own_segments (Some b) = b.segment ∷ []
-
--- the segments of a branch from its query on, the innermost first
-abbrev pub segments_on : Branching → List Segment
-segments_on [] = []
-segments_on ((b, i) ∷ way) = own_segments (slice_get b.branches i) ++ b.segment ∷ above_in_query b.kind (segments_on way)
-
--- a bound variable is the same as what it is bound to
-abbrev pub binding_equations : List Binding → Equations
-binding_equations bs = map (λ b. (VarTerm b.var, b.value)) bs
-
--- in the order in which they were bound
-abbrev pub segment_equations : List Segment → Equations
-segment_equations [] = []
-segment_equations (s ∷ above) = segment_equations above ++ binding_equations s.bindings
-
--- what is bound on a branch, if it can be
-abbrev pub bound_by : List Segment → Option Substitution
-bound_by segments = unifier (segment_equations segments)
-
--- the next variable number after those that a branch took
-abbrev pub next_number : List Segment → ℕ
-next_number [] = 0
-next_number (s ∷ above) = s.base + s.vars
+use Rattle.branch_reading.specs.BranchSegments.{segments_on, bound_by, next_number}
+use Rattle.branch_reading.specs.SettledWays.{items_on, is_way_settled}
 
 -- the queries that have been opened on a branch
 abbrev pub query_count : BodyKind → ℕ
@@ -113,15 +76,22 @@ or_nothing (Some s) = s
 abbrev pub entry_bound : BodyKind → ℕ → Continuation ℕ → Substitution → Entry
 entry_bound kind i f s = entry_beside kind i s (resolve_continuation s f)
 
-abbrev pub branch_items : Option Branch → List BranchItem
-branch_items None = []
-branch_items (Some b) = b.goals
+-- what is left to do on a branch, its bindings not applied
+abbrev pub continuation_on : Job → Branching → Continuation ℕ
+continuation_on job way = record { items = items_meant (items_on way); named = named_of (query_on job way); next = next_number (segments_on way) }
 
-abbrev pub continuation_on : Job → Branching → List BranchItem → Continuation ℕ
-continuation_on job way items = record { items = items_meant items; named = named_of (query_on job way); next = next_number (segments_on way) }
+-- the entry of a branch that is settled
+abbrev pub entry_on : Job → Branching → Entry
+entry_on job [] = EndEntry None
+entry_on job ((b, i) ∷ way) = entry_bound b.kind i (continuation_on job ((b, i) ∷ way)) (or_nothing (bound_by (segments_on ((b, i) ∷ way))))
+
+-- what no legal tree has: a variable that is not below the next number
+abbrev pub unreadable : Entry
+unreadable = PlainEntry (record { items = []; named = record { name = []; term = VarTerm 0 } ∷ []; next = 0 })
+
+abbrev pub entry_if : Bool → Entry → Entry
+entry_if settled e = cond settled e unreadable
 
 abbrev pub reading : Job → Reading
 reading job [] = EndEntry None
-reading job ((b, i) ∷ way) =
-    let items = branch_items (slice_get b.branches i) in
-    entry_meant items (entry_bound b.kind i (continuation_on job ((b, i) ∷ way) items) (or_nothing (bound_by (segments_on ((b, i) ∷ way)))))
+reading job ((b, i) ∷ way) = entry_meant (items_on ((b, i) ∷ way)) (entry_if (is_way_settled ((b, i) ∷ way)) (entry_on job ((b, i) ∷ way)))

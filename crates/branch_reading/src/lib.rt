@@ -2,6 +2,7 @@
 //! all nodes on the way down to it have bound (Warren 1987); and the nodes of queries.
 #![tactic(auto)]
 
+pub mod laws;
 pub mod queries;
 
 pub use queries::{end_body, query_body};

@@ -24,7 +24,9 @@ use Rattle.tree_nodes.specs.Bodies.{Body, BodyKind, ChoiceBody, ConditionBody, C
 use Rattle.tree_nodes.specs.Rows.{StoredNode, Rows, row_of_node, alternatives_at, cell_at}
 use Rattle.tree_nodes.specs.TreeTables.{NodesView, IsTableOf, IsWayTo}
 use Rattle.tree_closing.specs.Sleeping.{right_of, is_asleep_at, IsBesideSleeper}
-use Rattle.branch_reading.specs.Readings.{reading, branch_items, entry_meant, entry_bound, continuation_on, or_nothing, bound_by, segments_on, query_count, queries_on}
+use Rattle.branch_reading.specs.BranchSegments.{bound_by, segments_on}
+use Rattle.branch_reading.specs.SettledWays.{items_on, is_way_settled}
+use Rattle.branch_reading.specs.Readings.{reading, entry_meant, entry_bound, entry_if, unreadable, continuation_on, or_nothing, query_count, queries_on}
 use Rattle.branch_reading.specs.QueryNodes.{goals_in, IsQueryBody, IsEndAsleep}
 use Rattle.public_tree.specs.PublicTrees.{is_going}
 use Rattle.public_tree.specs.Answering.{taken_as, front_credit, ReadsAsNext}
@@ -35,14 +37,19 @@ use Rattle.core_tests.specs.FailingQueries.{failing_query, failing_job, failing_
 use Rattle.core_tests.specs.HandRuns.{with_claim, IsOutAt, FailsAt, EndsAt, OpensAt}
 
 -- the body of a query's node has the end for its second branch
-is_end : (items : List BranchItem) (f : Continuation ℕ) → EndEntry None ≡ entry_meant items (PlainEntry f) → items ≡ End None ∷ []
-is_end [] f e = let k : EndEntry None ≡ PlainEntry f = e in absurd cc
-is_end (End ball ∷ []) f e = let k : EndEntry None ≡ EndEntry ball = e in cc
-is_end (End ball ∷ i ∷ items) f e = let k : EndEntry None ≡ PlainEntry f = e in absurd cc
-is_end (Goal t s ∷ items) f e = let k : EndEntry None ≡ PlainEntry f = e in absurd cc
-is_end (CatchEnd s ∷ items) f e = let k : EndEntry None ≡ PlainEntry f = e in absurd cc
-is_end (Collect t s ∷ items) f e = let k : EndEntry None ≡ PlainEntry f = e in absurd cc
-is_end (Remove n ∷ items) f e = let k : EndEntry None ≡ PlainEntry f = e in absurd cc
+no_end : {A : Type 0} (settled : Bool) (f : Continuation ℕ) → EndEntry None ≡ entry_if settled (PlainEntry f) → A
+no_end true f e = let k : EndEntry None ≡ PlainEntry f = e in absurd cc
+no_end false f e = let k : EndEntry None ≡ unreadable = e in absurd cc
+
+is_end : (items : List BranchItem) (settled : Bool) (f : Continuation ℕ) → EndEntry None ≡ entry_meant items (entry_if settled (PlainEntry f))
+    → items ≡ End None ∷ []
+is_end [] settled f e = no_end settled f e
+is_end (End ball ∷ []) settled f e = let k : EndEntry None ≡ EndEntry ball = e in cc
+is_end (End ball ∷ i ∷ items) settled f e = no_end settled f e
+is_end (Goal t s ∷ items) settled f e = no_end settled f e
+is_end (CatchEnd s ∷ items) settled f e = no_end settled f e
+is_end (Collect t s ∷ items) settled f e = no_end settled f e
+is_end (Remove n ∷ items) settled f e = no_end settled f e
 
 query_kind : (k : BodyKind) → QueryNode ≡ node_kind k → k ≡ QueryBody
 query_kind ChoiceBody e = absurd cc
@@ -62,10 +69,14 @@ is_query : (job : Job) (way : Branching) (body : Body) → QueryNode ≡ node_ki
     → IsQueryBody body
 is_query job way body k e =
     let kind = query_kind body.kind k in
-    let items = branch_items (slice_get body.branches 1) in
+    let items = items_on ((body, 1) ∷ way) in
+    let settled = is_way_settled ((body, 1) ∷ way) in
     let s = or_nothing (bound_by (segments_on ((body, 1) ∷ way))) in
-    let f = continuation_on job ((body, 1) ∷ way) items in
-    record { kind = kind; ends = is_end items (resolve_continuation s f) (e ∙ ap (λ k. entry_meant items (entry_bound k 1 f s)) kind) }
+    let f = continuation_on job ((body, 1) ∷ way) in
+    record {
+      kind = kind;
+      ends = is_end items settled (resolve_continuation s f) (e ∙ ap (λ k. entry_meant items (entry_if settled (entry_bound k 1 f s))) kind);
+    }
 
 -- what sleeps at a node
 abbrev asleep_in : Option StoredNode → Bool
