@@ -1,8 +1,8 @@
 //! The region.
-ghost use Rattle.std.specs.Prelude.{◌≡◌, ◌<◌, ◌≤◌, IfOk, OnOk, OnErr, MatchOption, IsTrue, ◌↔◌, List, [], length};
+ghost use Rattle.std.specs.Prelude.{◌≡◌, ◌<◌, ◌≤◌, ◌∷◌, IfOk, OnOk, OnErr, MatchOption, IsTrue, ◌↔◌, List, [], length};
 ghost use Rattle.std.specs.Arc.{arc_value};
 ghost use Rattle.au_term.specs.Term.{var_bound};
-ghost use Rattle.cell_store.specs.StoreView.{AddsText, IsValueIn, meaning, text_in, value_term, with_numbers};
+ghost use Rattle.cell_store.specs.StoreView.{AddsText, BindsFurther, CanBeBound, IsValueIn, meaning, text_in, value_term, with_numbers};
 ghost use Rattle.run_model.specs.Programs.Clauses.{is_defined};
 ghost use Rattle.clause_compile.specs.AtomNumbers.{name_at};
 ghost use Rattle.cell_store.specs.UnificationSteps.{IsUnified, OnlyBinds};
@@ -344,6 +344,16 @@ impl Region {
         ensures err { OnErr result (self.new ≡ self.old) }
     {
         self.store.fresh(count)
+    }
+
+    /// Binds a free variable.
+    pub fn bind(&mut self, variable: u32, value: BindingCell) -> Result<(), NoMemory>
+        requires { CanBeBound self.old.store variable value }
+        ensures ok { OnOk result (BindsFurther self.old.store self.new.store ((variable, meaning self.old.store value) ∷ [])) }
+        ensures stays { StaysStanding self.old self.new }
+        ensures err { OnErr result (self.new ≡ self.old) }
+    {
+        self.store.bind(variable, value)
     }
 
     /// The value that a term is, whose variables are there: it is put behind the text.

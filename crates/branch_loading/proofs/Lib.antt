@@ -1,0 +1,4 @@
+mod MadeLemmas
+mod PlaceUpLemmas
+mod HeightLemmas
+mod BindingLemmas
