@@ -1,28 +1,34 @@
 -- Bindings made in a region.
-use Rattle.std.proofs.Common.{◌≡◌, ℕ, ◌+◌, ◌<◌, ◌≤◌, Bool, true, false, nat_lt, List, [], ◌∷◌, ◌++◌, append_assoc, map, Option, Some, None, refl, sym, ap, ◌∙◌, subst, arith}
+use Rattle.std.proofs.Common.{◌≡◌, ℕ, suc, ◌+◌, ◌<◌, ◌≤◌, true, nat_lt, List, [], ◌∷◌, ◌++◌, append_assoc, add-one, map, take, drop, length, get_or, Option, Some, None, refl, sym, ap, ◌∙◌, subst, arith}
 use Rattle.std.proofs.lemmas.Bool.Decides.{nat_tests}
-use Rattle.std.proofs.lemmas.List.{append-nil}
+use Rattle.std.proofs.Math.Seq.{drop-cons, take-suc}
+use Rattle.std.proofs.lemmas.List.{append-nil, map-append, take-append-drop}
+use Rattle.std.proofs.lemmas.Option.{slice_get_past, slice_get_read}
+use Rattle.std.specs.Option.{option_map}
 use Rattle.std.specs.Prelude.{slice_get}
 use Rattle.au_term.proofs.LogicLemmas.{both}
-use Rattle.au_term.specs.Term.{Term, VarTerm}
+use Rattle.au_term.specs.Term.{Term}
 use Rattle.au_term.specs.declared.segment.Binding.{Binding}
 use Rattle.au_term.specs.declared.segment.Segment.{Segment}
-use Rattle.au_model.specs.Terms.Substitutions.{Substitution, value_of, resolve, occurs}
+use Rattle.au_model.specs.Terms.Substitutions.{value_of, resolve, occurs}
 use Rattle.binding_array.specs.Represented.{IsFalling, cell_term}
 use Rattle.binding_array.specs.declared.cell.BindingCell.{BindingCell}
 use Rattle.binding_array.specs.declared.cell.BindingCell.TheVariants.{Free, Var, Int, Atom, Compound}
-use Rattle.cell_store.specs.StoreView.{StoreView, AddsText, BindsFurther, CanBeBound, IsComposition, IsValueIn, meaning, value_term}
+use Rattle.cell_store.specs.StoreView.{StoreView, AddsText, BindsFurther, CanBeBound, IsValueIn, meaning, value_term}
 use Rattle.clause_compile.specs.Places.{CodeView}
 use Rattle.clause_compile.specs.declared.event.Branch.{Branch}
 use Rattle.region_split.specs.Regions.{RegionView}
+use Rattle.tree_model.specs.EventViews.{place_view}
 use Rattle.tree_model.specs.Levels.{Place}
+use Rattle.tree_model.specs.declared.places.AltRef.{AltRef}
 use Rattle.tree_nodes.specs.Bodies.{Body}
-use Rattle.tree_nodes.specs.Rows.{Rows}
+use Rattle.tree_nodes.specs.Rows.{StoredNode, Rows}
+use Rattle.tree_nodes.specs.TreeTables.{stored_body}
 use Rattle.branch_reading.specs.BranchSegments.{own_segments, bindings_on, next_number}
-use Rattle.branch_reading.specs.SettledWays.{is_bound_back, is_binding_settled, are_bindings_settled}
+use Rattle.branch_reading.specs.SettledWays.{is_bound_back, are_bindings_settled}
 use Rattle.branch_loading.specs.MadeInTurn.{IsMadeBy, CanMake, Makes}
-use Rattle.branch_loading.specs.PlacesUp.{body_at, segments_above, segments_at}
-use Rattle.branch_loading.proofs.MadeLemmas.{settled-front, IsLastSettled, last_settled, IsBoundNext, bound_next}
+use Rattle.branch_loading.specs.PlacesUp.{missing_body, body_at, segments_at}
+use Rattle.branch_loading.proofs.MadeLemmas.{settled-front, last_settled, bound_next}
 
 below_next : (v n : ℕ) → nat_lt v n ≡ true → v < n
 below_next v n h = grind (arith, nat_tests)
@@ -169,3 +175,69 @@ next_alone rows p above = by_own (slice_get (body_at rows p).branches p.index)
         ≡ next_number (own_segments o ++ (body_at rows p).segment ∷ [])
     by_own None = refl
     by_own (Some b) = refl
+
+-- the next number after a segment, and the bindings of a body's own segments
+pub stored : (o : Option StoredNode) (b : Body) → option_map (λ r. r.body) o ≡ Some b → stored_body missing_body o ≡ b
+stored None b e = absurd (cc e)
+stored (Some r) b e = cc e
+
+module _ (rows : Rows) (p : Place) (body : Body) (is : body_at rows p ≡ body) where
+  pub can_bind_node : (a : RegionView) → CanMake a (bindings_on (segments_at rows (p ∷ []))) → CanMake a body.segment.bindings
+  can_bind_node a can = can_front a body.segment.bindings (own_bindings (slice_get body.branches p.index)) (subst (CanMake a) (place_bindings rows p body is) can)
+
+  module _ (a b : RegionView) (made : Makes a b body.segment.bindings) where
+    pub can_bind_branch : (branch : Branch) → slice_get body.branches p.index ≡ Some branch → CanMake a (bindings_on (segments_at rows (p ∷ [])))
+        → CanMake b branch.segment.bindings
+    can_bind_branch branch e can =
+        subst (λ o. CanMake b (own_bindings o)) e
+        (can_go_on a b body.segment.bindings (own_bindings (slice_get body.branches p.index)) (subst (CanMake a) (place_bindings rows p body is) can) made)
+
+    pub makes_branch : (c : RegionView) (branch : Branch) → slice_get body.branches p.index ≡ Some branch → Makes b c branch.segment.bindings
+        → Makes a c (bindings_on (segments_at rows (p ∷ [])))
+    makes_branch c branch e more =
+        subst (Makes a c) (ap (λ o. body.segment.bindings ++ own_bindings o) (sym e) ∙ sym (place_bindings rows p body is))
+        (makes_more a b c body.segment.bindings branch.segment.bindings made more)
+
+    pub makes_node : slice_get body.branches p.index ≡ None → Makes a b (bindings_on (segments_at rows (p ∷ [])))
+    makes_node e =
+        subst (Makes a b)
+        (sym (append-nil body.segment.bindings) ∙ (ap (λ o. body.segment.bindings ++ own_bindings o) (sym e) ∙ sym (place_bindings rows p body is))) made
+
+-- one after another
+module _ (a b : RegionView) (xs : List Binding) (i : ℕ) (x : Binding) (here : x ≡ get_or xs i x) (within : i < length xs) (made : Makes a b (take i xs)) where
+  rest_is : drop i xs ≡ x ∷ drop (suc i) xs
+  rest_is = drop-cons xs i x within ∙ ap (λ y. y ∷ drop (suc i) xs) (sym here)
+
+  pub can_bind_at : CanMake a xs → CanMake b (x ∷ [])
+  can_bind_at can =
+      can_front b (x ∷ []) (drop (suc i) xs)
+      (subst (CanMake b) rest_is (can_go_on a b (take i xs) (drop i xs) (subst (CanMake a) (sym (take-append-drop i xs)) can) made))
+
+  pub makes_at : (c : RegionView) → Makes b c (x ∷ []) → Makes a c (take (i + 1) xs)
+  makes_at c more =
+      let taken : take (i + 1) xs ≡ take i xs ++ x ∷ [] = ap (λ n. take n xs) (add-one i) ∙ (take-suc xs i x within ∙ ap (λ y. take i xs ++ y ∷ []) (sym here)) in
+      subst (Makes a c) (sym taken) (makes_more a b c (take i xs) (x ∷ []) made more)
+
+-- down the places
+module _ (rows : Rows) (a b : RegionView) (xs : List AltRef) (i : ℕ) (d : AltRef) (within : i < length xs)
+    (made : Makes a b (bindings_on (segments_at rows (map place_view (drop (suc i) xs))))) where
+  from_here : map place_view (drop i xs) ≡ place_view (get_or xs i d) ∷ map place_view (drop (suc i) xs)
+  from_here = ap (map place_view) (drop-cons xs i d within)
+
+  pub can_bind_down : CanMake a (bindings_on (segments_at rows (map place_view xs))) → CanMake b (bindings_on (segments_at rows (place_view (get_or xs i d) ∷ [])))
+  can_bind_down can =
+      can_bind_place rows a b (map place_view (drop (suc i) xs)) (place_view (get_or xs i d)) (map place_view (take i xs))
+      (subst (λ ps. CanMake a (bindings_on (segments_at rows ps)))
+      (ap (map place_view) (sym (take-append-drop i xs)) ∙ (map-append place_view (take i xs) (drop i xs) ∙ ap (λ ps. map place_view (take i xs) ++ ps) from_here)) can) made
+
+  pub makes_down : (c : RegionView) → Makes b c (bindings_on (segments_at rows (place_view (get_or xs i d) ∷ [])))
+      → Makes a c (bindings_on (segments_at rows (map place_view (drop i xs))))
+  makes_down c more =
+      subst (λ ps. Makes a c (bindings_on (segments_at rows ps))) (sym from_here)
+      (makes_place rows a b (map place_view (drop (suc i) xs)) (place_view (get_or xs i d)) (map place_view (take i xs)) c made more)
+
+pub branch_found : (xs ys : List Branch) (n : ℕ) (x : Branch) → n < length xs → x ≡ get_or xs n x → xs ≡ ys → slice_get ys n ≡ Some x
+branch_found xs ys n x l e f = ap (λ zs. slice_get zs n) (sym f) ∙ slice_get_read xs (length xs) n x refl l e
+
+pub branch_missing : (xs ys : List Branch) (n : ℕ) → length xs ≤ n → xs ≡ ys → slice_get ys n ≡ None
+branch_missing xs ys n l f = ap (λ zs. slice_get zs n) (sym f) ∙ slice_get_past xs n l

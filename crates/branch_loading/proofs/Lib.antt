@@ -2,3 +2,4 @@ mod MadeLemmas
 mod PlaceUpLemmas
 mod HeightLemmas
 mod BindingLemmas
+mod LoadLemmas

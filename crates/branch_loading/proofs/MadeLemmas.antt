@@ -1,13 +1,13 @@
 -- One more binding is made.
-use Rattle.std.proofs.Common.{◌≡◌, ℕ, ◌<◌, ◌≤◌, ◌==◌, Bool, true, false, ◌&&◌, ◌||◌, not, cond, nat_lt, List, [], ◌∷◌, ◌++◌, map, Option, Some, None, refl, sym, ap, ◌∙◌, subst, arith}
+use Rattle.std.proofs.Common.{◌≡◌, ℕ, ◌<◌, ◌≤◌, ◌==◌, Bool, true, false, ◌&&◌, ◌||◌, not, cond, nat_lt, List, [], ◌∷◌, ◌++◌, Option, Some, None, refl, sym, ap, ◌∙◌, subst, arith}
 use Rattle.std.proofs.lemmas.Bool.Decides.{nat_tests}
 use Rattle.std.proofs.lemmas.List.{map-append}
 use Rattle.std.proofs.lemmas.List.Folds.{list_all-append, list_any-append}
-use Rattle.std.specs.List.{list_all, list_any}
+use Rattle.std.specs.List.{list_all}
 use Rattle.std.specs.Option.{option_map}
 use Rattle.std.specs.Prelude.{is_some}
-use Rattle.au_term.proofs.LogicLemmas.{both, and-both, or-left, or-right, not-true, false_true, true_false, numbers_turned}
-use Rattle.au_term.specs.Term.{Term, VarTerm, IntTerm, AtomTerm, Compound, Terms}
+use Rattle.au_term.proofs.LogicLemmas.{both, and-both, or-left, or-right, not-true, false_true, numbers_turned}
+use Rattle.au_term.specs.Term.{Term, VarTerm, IntTerm, AtomTerm, Compound}
 use Rattle.au_term.specs.declared.segment.Binding.{Binding}
 use Rattle.au_model.proofs.ApplyLemmas.{apply-same}
 use Rattle.au_model.proofs.EquationOrderLemmas.{KeepsOlder, keeps_older}
@@ -15,8 +15,8 @@ use Rattle.au_model.proofs.EquationsInTurnLemmas.{resolve-nothing, resolve-after
 use Rattle.au_model.proofs.UnifierLemmas.{unifier-first, unifier_goes}
 use Rattle.au_model.specs.Terms.EquationsInTurn.{after, resolved_equations, further_unified}
 use Rattle.au_model.specs.Terms.MostGeneral.{SameValues}
-use Rattle.au_model.specs.Terms.Substitutions.{Substitution, apply, value_of, resolve, occurs}
-use Rattle.au_model.specs.Terms.Unifier.{Equations, Rule, Dropped, Replaced, Opened, Clash, rule, by_rule, bound, replace, unifier}
+use Rattle.au_model.specs.Terms.Substitutions.{Substitution, value_of, resolve, occurs}
+use Rattle.au_model.specs.Terms.Unifier.{Equations, Replaced, Clash, rule, by_rule, bound, unifier}
 use Rattle.cell_store.specs.StoreView.{IsComposition}
 use Rattle.branch_reading.specs.BranchSegments.{binding_equations}
 use Rattle.branch_reading.specs.SettledWays.{is_bound_back, is_binding_settled, binds_variable, are_bound_once, are_bindings_settled}

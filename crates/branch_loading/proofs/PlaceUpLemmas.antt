@@ -1,18 +1,22 @@
 -- The places up from an alternative.
-use Rattle.std.proofs.Common.{◌≡◌, ℕ, suc, ◌<◌, ◌≤◌, Bool, true, false, cond, List, [], ◌∷◌, ◌++◌, map, take, length, Option, Some, None, refl, sym, ap, ap₂, ◌∙◌, subst, arith}
+use Rattle.std.proofs.Common.{◌≡◌, ℕ, zero, suc, ◌+◌, ◌<◌, true, false, cond, List, [], ◌∷◌, ◌++◌, map, take, drop, length, get_or, slice_index_or, add-one, Option, Some, None, refl, sym, ap, ap₂, ◌∙◌, subst, arith}
+use Rattle.std.proofs.Math.Seq.{drop-cons}
+use Rattle.std.specs.Option.{option_map}
 use Rattle.std.specs.Prelude.{is_some, slice_get}
+use Rattle.au_term.proofs.LogicLemmas.{false_true}
 use Rattle.au_model.specs.Terms.Each.{Each}
 use Rattle.au_term.specs.declared.segment.Segment.{Segment}
-use Rattle.clause_compile.specs.declared.event.Branch.{Branch}
-use Rattle.tree_model.specs.Levels.{Level, Place, plug, place_at}
-use Rattle.tree_model.specs.Nodes.{Status}
+use Rattle.tree_model.specs.EventViews.{place_view}
+use Rattle.tree_model.specs.Levels.{Level, Place, place_at}
+use Rattle.tree_model.specs.declared.places.AltRef.{AltRef}
 use Rattle.tree_nodes.proofs.AddLemmas.{way_same}
 use Rattle.tree_nodes.proofs.PlaceLemmas.{AreRound, taken_out}
 use Rattle.tree_nodes.specs.Bodies.{Body, BodyKind, ChoiceBody, ConditionBody, CatchBody, FindallBody, QueryBody, Branching, Reading}
-use Rattle.tree_nodes.specs.Rows.{AlternativeCell, InnerCell, StoredNode, Rows, row_of_node}
-use Rattle.tree_nodes.specs.TreeTables.{NodesView, IsTableOf, IsBelow, IsWayTo, above_of, cell_of, stored_body}
+use Rattle.tree_nodes.specs.Folds.{IsAbove}
+use Rattle.tree_nodes.specs.Rows.{AlternativeCell, InnerCell, StoredNode, Rows, row_of_node, node_parent, alternatives_at}
+use Rattle.tree_nodes.specs.TreeTables.{IsBelow, above_of, cell_of, stored_body}
 use Rattle.branch_reading.specs.BranchSegments.{above_in_query, segments_on}
-use Rattle.branch_loading.specs.PlacesUp.{IsStepUp, LeadsUp, AreAllUp, missing_body, body_at, branching_at, segments_above, segments_at, is_query_body, IsQueryPart, AreAtNodes, AreFallingPlaces, AreItsLevels, PlacesAreLevels}
+use Rattle.branch_loading.specs.PlacesUp.{IsStepUp, LeadsUp, missing_body, body_at, branching_at, segments_above, is_query_body, IsQueryPart, AreAtNodes, AreFallingPlaces, AreItsLevels, PlacesAreLevels}
 
 -- one more place
 pub leads_further : (rows : Rows) (places : List Place) (p : Place) (from to above : Option Place) → LeadsUp rows places from to → to ≡ Some p
@@ -22,7 +26,7 @@ leads_further rows (q ∷ places) p from to above h e step = (h.0, (h.1.0, (h.1.
 
 below_all : (above : Option Place) (m n : ℕ) → IsBelow above m → m < n → IsBelow above n
 below_all None m n h l = tt
-below_all (Some a) m n h l = omega arith
+below_all (Some a) m n h l = let first : a.node < m = h in omega arith
 
 all_below : (rows : Rows) (places : List Place) (from : Option Place) (n : ℕ) → LeadsUp rows places from None → IsBelow from n → Each (λ q. q.node < n) places
 all_below rows [] from n h b = tt
@@ -91,3 +95,66 @@ pub part_goes_on : (rows : Rows) (p : Place) (places : List Place) (n : ℕ) →
     → IsQueryPart rows (p ∷ places) (suc n)
 part_goes_on rows p places n e h =
     ap (segments_above rows p) (above_by (body_at rows p).kind (segments_on (branching_at rows places)) ∙ (ap (λ b. cond b [] (segments_on (branching_at rows places))) e ∙ h))
+
+-- while the way up is walked
+abbrev pub IsThere : Rows → Option Place → Type 0
+IsThere rows None = Unit {0}
+IsThere rows (Some a) = is_some (row_of_node rows a.node) ≡ true
+
+abbrev pub number_of : Option Place → ℕ
+number_of None = 0
+number_of (Some a) = suc a.node
+
+row_there : (o : Option StoredNode) (i : ℕ) → is_some (slice_get (alternatives_at o) i) ≡ true → is_some o ≡ true
+row_there None i h = h
+row_there (Some r) i h = refl
+
+pub above_there : (rows : Rows) (above : Option Place) (n : ℕ) → IsAbove rows above n → IsThere rows above
+above_there rows None n h = tt
+above_there rows (Some a) n h = row_there (row_of_node rows a.node) a.index h.0
+
+pub above_below : (rows : Rows) (above : Option Place) (n : ℕ) → IsAbove rows above n → IsBelow above n
+above_below rows None n h = tt
+above_below rows (Some a) n h = h.1
+
+pub above_falls : (rows : Rows) (above : Option Place) (n : ℕ) → IsAbove rows above n → number_of above < suc n
+above_falls rows None n h = omega arith
+above_falls rows (Some a) n h = let less : a.node < n = h.1 in omega arith
+
+pub step_up : (rows : Rows) (p : Place) (above : Option Place) → is_some (row_of_node rows p.node) ≡ true → node_parent rows p.node ≡ Some above
+    → IsAbove rows above p.node → IsStepUp rows p above
+step_up rows p above there parent h = by_row (row_of_node rows p.node) refl there (parent)
+  where
+    by_row : (o : Option StoredNode) → row_of_node rows p.node ≡ o → is_some o ≡ true → option_map (λ r. r.parent) (row_of_node rows p.node) ≡ Some above → IsStepUp rows p above
+    by_row None e s k = false_true s
+    by_row (Some r) e s k =
+        let same : Some r.parent ≡ Some above = sym (ap (option_map (λ (x : StoredNode). x.parent)) e) ∙ k in
+        record { row = r; is = e; parent = cc same; below = above_below rows above p.node h }
+
+-- by indexes
+pub node_at : (rows : Rows) (xs : List AltRef) → AreAtNodes rows (map place_view xs) → (i : ℕ) (d : AltRef) → i < length xs
+    → is_some (row_of_node rows (slice_index_or xs i d).node) ≡ true
+node_at rows [] h i d l = absurd (omega arith)
+node_at rows (x ∷ xs) h zero d l = h.0
+node_at rows (x ∷ xs) h (suc i) d l = node_at rows xs h.1 i d (omega arith)
+
+module _ (rows : Rows) (xs : List AltRef) (i : ℕ) (d : AltRef) (within : i < length xs) where
+  from_here : map place_view (drop i xs) ≡ place_view (get_or xs i d) ∷ map place_view (drop (suc i) xs)
+  from_here = ap (map place_view) (drop-cons xs i d within)
+
+  module _ (count : ℕ) (part : (n : ℕ) → IsQueryPart rows (map place_view (drop i xs)) n → IsQueryPart rows (map place_view xs) (count + n)) where
+    pub part_here : is_query_body (body_at rows (place_view (get_or xs i d))).kind ≡ true → IsQueryPart rows (map place_view xs) (count + 1)
+    part_here e = part 1 (subst (λ ps. IsQueryPart rows ps 1) (sym from_here) (part_ends rows (place_view (get_or xs i d)) (map place_view (drop (suc i) xs)) e))
+
+    pub part_after : is_query_body (body_at rows (place_view (get_or xs i d))).kind ≡ false → (n : ℕ)
+        → IsQueryPart rows (map place_view (drop (i + 1) xs)) n → IsQueryPart rows (map place_view xs) (count + 1 + n)
+    part_after e n h =
+        let rest : IsQueryPart rows (map place_view (drop (suc i) xs)) n = subst (λ k. IsQueryPart rows (map place_view (drop k xs)) n) (add-one i) h in
+        let more = part_goes_on rows (place_view (get_or xs i d)) (map place_view (drop (suc i) xs)) n e rest in
+        let sum : count + suc n ≡ count + 1 + n = omega arith in
+        subst (IsQueryPart rows (map place_view xs)) sum (part (suc n) (subst (λ ps. IsQueryPart rows ps (suc n)) (sym from_here) more))
+
+pub nodes_front : (rows : Rows) (xs : List AltRef) (n : ℕ) → AreAtNodes rows (map place_view xs) → AreAtNodes rows (map place_view (take n xs))
+nodes_front rows xs zero h = tt
+nodes_front rows [] (suc n) h = tt
+nodes_front rows (x ∷ xs) (suc n) h = (h.0, nodes_front rows xs n h.1)

@@ -1,5 +1,5 @@
 -- The way up from an alternative, place by place, and what the nodes on it were made from.
-use Rattle.std.specs.Prelude.{◌≡◌, ◌<◌, ℕ, Bool, true, false, List, [], ◌∷◌, ◌++◌, map, take, Option, Some, None, is_some, IsSome, slice_get}
+use Rattle.std.specs.Prelude.{◌≡◌, ◌<◌, ℕ, Bool, true, false, List, [], ◌∷◌, ◌++◌, map, take, Option, Some, None, is_some, slice_get}
 use Rattle.au_model.specs.Terms.Each.{Each}
 use Rattle.au_term.specs.declared.segment.Segment.{Segment}
 use Rattle.tree_model.specs.Levels.{Level, Place, plug, place_at}

@@ -36,10 +36,10 @@ fn bind_place(region: &mut Region, nodes: &Nodes, place: AltRef) -> Result<(), N
 {
     let body = nodes.body(place.node);
     bind_all(region, body.segment.bindings.as_slice())?;
-    match body.branches.get(place.alternative as usize) {
-        Some(branch) => bind_all(region, branch.segment.bindings.as_slice()),
-        None => Ok(()),
+    if let Some(branch) = body.branches.get(place.alternative as usize) {
+        bind_all(region, branch.segment.bindings.as_slice())?;
     }
+    Ok(())
 }
 
 fn bind_all(region: &mut Region, bindings: &[Binding]) -> Result<(), NoMemory>
@@ -60,7 +60,8 @@ fn bind_one(region: &mut Region, binding: &Binding) -> Result<(), NoMemory>
         return Err(NoMemory);
     };
     let value = region.copy_in(&binding.value)?;
-    region.bind(variable, value)
+    region.bind(variable, value)?;
+    Ok(())
 }
 
 /// The next variable number below an alternative.

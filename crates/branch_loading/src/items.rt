@@ -30,11 +30,7 @@ pub(crate) fn deferred_items(
 }
 
 // The end of a query is none of them.
-fn push_item(
-    items: &mut Vec<DeferredItem>,
-    item: &Item,
-    places: &[AltRef],
-) -> Result<(), NoMemory>
+fn push_item(items: &mut Vec<DeferredItem>, item: &Item, places: &[AltRef]) -> Result<(), NoMemory>
     requires falling { AreFallingPlaces (map place_view places.now) }
     requires few { length places.now < 2 ^ 32 }
     ensures { OnOk result (map item_of items.new.items ≡ map item_of items.old.items ++ items_over (map place_view places.now) (item.now ∷ [])) }

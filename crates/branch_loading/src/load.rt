@@ -43,7 +43,8 @@ pub fn load_task(
     let mut region = Region::new(alloc, text)?;
     region.fresh(next)?;
     bind_way(&mut region, nodes, &places[..own])?;
-    TaskRegion::new(region, floor, deferred)
+    let task = TaskRegion::new(region, floor, deferred)?;
+    Ok(task)
 }
 
 // What an alternative has left to do.
