@@ -1,6 +1,5 @@
 -- Bindings made in a region.
-use Rattle.std.proofs.Common.{◌≡◌, ℕ, suc, ◌+◌, ◌<◌, ◌≤◌, true, nat_lt, List, [], ◌∷◌, ◌++◌, append_assoc, add-one, map, take, drop, length, get_or, Option, Some, None, refl, sym, ap, ◌∙◌, subst, arith}
-use Rattle.std.proofs.lemmas.Bool.Decides.{nat_tests}
+use Rattle.std.proofs.Common.{◌≡◌, ℕ, suc, ◌+◌, ◌<◌, ◌≤◌, true, List, [], ◌∷◌, ◌++◌, append_assoc, add-one, map, take, drop, length, get_or, Option, Some, None, refl, sym, ap, ◌∙◌, subst}
 use Rattle.std.proofs.Math.Seq.{drop-cons, take-suc}
 use Rattle.std.proofs.lemmas.List.{append-nil, map-append, take-append-drop}
 use Rattle.std.proofs.lemmas.Option.{slice_get_past, slice_get_read}
@@ -10,6 +9,7 @@ use Rattle.au_term.proofs.LogicLemmas.{both}
 use Rattle.au_term.specs.Term.{Term}
 use Rattle.au_term.specs.declared.segment.Binding.{Binding}
 use Rattle.au_term.specs.declared.segment.Segment.{Segment}
+use Rattle.au_model.proofs.UnifierRuleLemmas.{below}
 use Rattle.au_model.specs.Terms.Substitutions.{value_of, resolve, occurs}
 use Rattle.binding_array.specs.Represented.{IsFalling, cell_term}
 use Rattle.binding_array.specs.declared.cell.BindingCell.{BindingCell}
@@ -30,12 +30,9 @@ use Rattle.branch_loading.specs.MadeInTurn.{IsMadeBy, CanMake, Makes}
 use Rattle.branch_loading.specs.PlacesUp.{missing_body, body_at, segments_at}
 use Rattle.branch_loading.proofs.MadeLemmas.{settled-front, last_settled, bound_next}
 
-below_next : (v n : ℕ) → nat_lt v n ≡ true → v < n
-below_next v n h = grind (arith, nat_tests)
-
 falls_to : (code : CodeView) (v : ℕ) (t : Term) (value : BindingCell) → cell_term code value ≡ t → is_bound_back v t ≡ true → IsFalling v value
 falls_to code v t Free e h = tt
-falls_to code v t (Var w) e h = below_next w v (ap (is_bound_back v) e ∙ h)
+falls_to code v t (Var w) e h = below w v (ap (is_bound_back v) e ∙ h)
 falls_to code v t (Int z) e h = tt
 falls_to code v t (Atom a) e h = tt
 falls_to code v t (Compound at base) e h = tt
@@ -53,7 +50,7 @@ module _ (old mid : RegionView) (b : Binding) (value : BindingCell) (adds : Adds
       let bound = bound_next next can.before b old.store.now.bound can.made can.settled in
       let parts = both _ _ last.binding in
       record {
-        there = subst (λ n. b.var < n) (sym adds.next) (below_next b.var next parts.0);
+        there = subst (λ n. b.var < n) (sym adds.next) (below b.var next parts.0);
         free = ap (λ s. value_of s b.var) adds.bound ∙ bound.free;
         value = there;
         falling = falls_to _ b.var b.value value term (both _ _ parts.1).1;

@@ -6,6 +6,8 @@ use Rattle.std.specs.List.Sorted.{IsPartitionPoint, IsPartitionedBy}
 use Rattle.tree_model.specs.EventViews.{place_view}
 use Rattle.tree_model.specs.declared.places.AltRef.{AltRef}
 use Rattle.std.proofs.lemmas.Bool.Decides.{nat_tests}
+use Rattle.au_term.proofs.LogicLemmas.{less, not_lt_by}
+use Rattle.au_model.proofs.UnifierRuleLemmas.{below}
 use Rattle.au_model.specs.Terms.Each.{Each}
 use Rattle.clause_compile.specs.declared.item.Item.{Item as BranchItem}
 use Rattle.clause_compile.specs.declared.item.Item.TheVariants.{Goal, CatchEnd, Collect, Remove, End}
@@ -62,15 +64,6 @@ fall_at (x ∷ xs) h i zero d l m = absurd (omega arith)
 fall_at (x ∷ xs) h zero (suc j) d l m = each_index xs x.node h.0 j d (omega arith)
 fall_at (x ∷ xs) h (suc i) (suc j) d l m = fall_at xs h.1 i j d (omega arith) (omega arith)
 
-less_true : (m n : ℕ) → m < n → nat_lt m n ≡ true
-less_true m n h = grind (arith, nat_tests)
-
-true_less : (m n : ℕ) → nat_lt m n ≡ true → m < n
-true_less m n h = grind (arith, nat_tests)
-
-false_less : (m n : ℕ) → nat_lt m n ≡ false → n ≤ m
-false_less m n h = grind (arith, nat_tests)
-
 number_other : (m n : ℕ) → (m ≡ n → ⊥) → (m == n) ≡ false
 number_other m n h = grind (arith, nat_tests)
 
@@ -79,9 +72,9 @@ fall_parted s xs h i j d l m e = by_order (cases_lt i j)
   where
     by_order : (i < j) ⊎ (j ≤ i) → nat_lt s (slice_index_or xs i d).node ≡ true
     by_order (inl k) =
-        let less = true_less s (slice_index_or xs j d).node e in
+        let first = below s (slice_index_or xs j d).node e in
         let fall = fall_at xs h i j d k m in
-        less_true s (slice_index_or xs i d).node (omega (arith, less, fall))
+        less s (slice_index_or xs i d).node (omega (arith, first, fall))
     by_order (inr k) = let same : i ≡ j = omega arith in ap (λ n. nat_lt s (slice_index_or xs n d).node) same ∙ e
 
 -- where a search has come to
@@ -108,12 +101,12 @@ module _ (d : AltRef) where
 
   module _ (xs : List AltRef) (at s : ℕ) (split : IsSplitAt s xs at) where
     pub height_found : at < length xs → (slice_index_or xs at d).node ≡ s → length xs - at ≡ height_among (map place_view xs) s
-    height_found l e = sym (height_down xs at s (λ k m. true_less s (slice_index_or xs k d).node (split.0 k d (omega arith) m)) l e)
+    height_found l e = sym (height_down xs at s (λ k m. below s (slice_index_or xs k d).node (split.0 k d (omega arith) m)) l e)
 
     module _ (falls : AreFallingPlaces (map place_view xs)) (apart : at < length xs → (slice_index_or xs at d).node ≡ s → ⊥) where
       after : (k : ℕ) → at < k → k < length xs → (slice_index_or xs k d).node ≡ s → ⊥
       after k m l e =
-          let here = false_less s (slice_index_or xs at d).node (split.1 at d (omega arith) (omega arith)) in
+          let here = not_lt_by s (slice_index_or xs at d).node (split.1 at d (omega arith) (omega arith)) in
           let fall = fall_at xs falls at k d m l in
           omega (arith, here, fall, e)
 
@@ -123,7 +116,7 @@ module _ (d : AltRef) where
 
       none : (k : ℕ) → k < length xs → (slice_index_or xs k d).node ≡ s → ⊥
       none k l e = elim (cases_lt k at) [
-        | inl m ↦ let before = true_less s (slice_index_or xs k d).node (split.0 k d (omega arith) m) in omega (arith, before, e)
+        | inl m ↦ let before = below s (slice_index_or xs k d).node (split.0 k d (omega arith) m) in omega (arith, before, e)
         | inr m ↦ from_at k l e (cases_lt at k) m
       ]
 

@@ -3,3 +3,4 @@ mod PlaceUpLemmas
 mod HeightLemmas
 mod BindingLemmas
 mod LoadLemmas
+mod LoadableLemmas

@@ -1,9 +1,8 @@
 -- A region with the bindings of a branch stands at the start of what the branch reads as.
-use Rattle.std.proofs.Common.{◌≡◌, ℕ, ◌<◌, ◌≤◌, ◌==◌, Bool, true, false, cond, nat_le, List, [], ◌∷◌, ◌++◌, map, take, length, Option, Some, None, refl, sym, ap, ap₂, ◌∙◌, subst, arith}
-use Rattle.std.proofs.lemmas.Bool.Decides.{nat_tests}
+use Rattle.std.proofs.Common.{◌≡◌, ℕ, ◌<◌, ◌==◌, Bool, true, false, cond, List, [], ◌∷◌, ◌++◌, map, take, length, Option, Some, None, refl, sym, ap, ap₂, ◌∙◌, subst, arith}
 use Rattle.std.specs.List.{list_all}
 use Rattle.std.specs.Prelude.{slice_get}
-use Rattle.au_term.proofs.LogicLemmas.{both, not-true, false_true}
+use Rattle.au_term.proofs.LogicLemmas.{both, not-true, false_true, le_by}
 use Rattle.au_term.specs.Term.{Term, var_bound}
 use Rattle.au_term.specs.declared.segment.Segment.{Segment}
 use Rattle.au_model.proofs.ApplyLemmas.{apply-same}
@@ -93,15 +92,19 @@ pub settled_items : (way : Branching) → is_way_settled way ≡ true → list_a
 settled_items [] h = false_true h
 settled_items ((b, i) ∷ way) h = (both _ _ (both _ _ h).1).0
 
+pub reads_settled : (job : Job) (way : Branching) → is_way_settled way ≡ true → reading job way ≡ entry_on job way
+reads_settled job [] settled = false_true settled
+reads_settled job ((b, i) ∷ way) settled =
+    let here = (b, i) ∷ way in
+    ap (λ is. entry_meant (items_on here) (entry_if is (entry_on job here))) settled
+    ∙ no_end_meant (next_number (segments_on here)) (items_on here) (entry_on job here) (settled_items here settled)
+
 reads_plain : (job : Job) (way : Branching) → CanBeLoaded way
     → reading job way ≡ PlainEntry (resolve_continuation (or_nothing (bound_by (segments_on way))) (continuation_on job way))
 reads_plain job [] can = false_true can.settled
 reads_plain job ((b, i) ∷ way) can =
-    let here = (b, i) ∷ way in
-    let s = or_nothing (bound_by (segments_on here)) in
-    ap (λ settled. entry_meant (items_on here) (entry_if settled (entry_on job here))) can.settled
-    ∙ (no_end_meant (next_number (segments_on here)) (items_on here) (entry_on job here) (settled_items here can.settled)
-    ∙ plain_beside b.kind i s (resolve_continuation s (continuation_on job here)) can.task)
+    let s = or_nothing (bound_by (segments_on ((b, i) ∷ way))) in
+    reads_settled job ((b, i) ∷ way) can.settled ∙ plain_beside b.kind i s (resolve_continuation s (continuation_on job ((b, i) ∷ way))) can.task
 
 -- the first place
 pub first_place : (rows : Rows) (a : Place) (places : List Place) → AreAllUp rows a places → (above : List Place) × (places ≡ a ∷ above)
@@ -145,20 +148,17 @@ module _ (rows : Rows) (a : Place) (places : List Place) (own : ℕ) (f : Region
   pub all_made : (r : RegionView) → Makes f r (bindings_on (segments_at rows (take own places))) → IsMadeBy (bindings_on (segments_at rows (take own places))) r.store.now.bound
   all_made r makes = makes.made [] none_made settled_all
 
-below_of : (m n : ℕ) → nat_le m n ≡ true → m ≤ n
-below_of m n h = grind (arith, nat_tests)
-
 -- all items can be deferred
 deferred_over : (places : List Place) (next : ℕ) → 0 < length places → (items : List BranchItem) → list_all (is_item_settled next) items ≡ true
     → Each (IsDeferredOver next (length places)) (items_over places items)
 deferred_over places next some [] h = tt
 deferred_over places next some (Goal t s ∷ items) h =
-    let k = both _ _ h in ((below_of (var_bound t) next k.0, height-within places (scope_number s)), deferred_over places next some items k.1)
+    let k = both _ _ h in ((le_by (var_bound t) next k.0, height-within places (scope_number s)), deferred_over places next some items k.1)
 deferred_over places next some (CatchEnd s ∷ items) h =
     let within = height-within places (scope_number s) in (omega arith, deferred_over places next some items h)
 deferred_over places next some (Collect t s ∷ items) h =
     let k = both _ _ h in let within = height-within places (scope_number s) in
-    ((below_of (var_bound t) next k.0, omega arith), deferred_over places next some items k.1)
+    ((le_by (var_bound t) next k.0, omega arith), deferred_over places next some items k.1)
 deferred_over places next some (Remove n ∷ items) h = (tt, deferred_over places next some items h)
 deferred_over places next some (End ball ∷ items) h = false_true h
 

@@ -1,5 +1,7 @@
 -- The region of a task that is loaded from the tree.
 use Rattle.std.specs.Prelude.{◌≡◌, ◌==◌, ℕ, Bool, true, not, List, [], ◌∷◌, IsSome}
+use Rattle.run_model.specs.Machine.Entries.{PlainEntry}
+use Rattle.run_model.specs.Machine.Items.{Continuation}
 use Rattle.run_model.specs.Programs.Clauses.{Clause}
 use Rattle.run_model.specs.Programs.Jobs.{Job}
 use Rattle.region_floor.specs.Deferred.{all_deferred}
@@ -9,9 +11,10 @@ use Rattle.task_region.specs.TaskStandings.{StandsOnRun}
 use Rattle.task_region.specs.TaskViews.{TaskView}
 use Rattle.tree_model.specs.Floors.{with_heights}
 use Rattle.tree_model.specs.Levels.{Level, Place, plug, place_at}
-use Rattle.tree_model.specs.Nodes.{Status}
+use Rattle.tree_model.specs.Nodes.{Hold, Status, Pending}
+use Rattle.tree_model.specs.NumberedTrees.{IsNumberedStatus}
 use Rattle.tree_nodes.specs.Bodies.{BodyKind, ChoiceBody, ConditionBody, CatchBody, FindallBody, QueryBody, Branching, Reading}
-use Rattle.tree_nodes.specs.Rows.{Rows}
+use Rattle.tree_nodes.specs.Rows.{Rows, row_of_node}
 use Rattle.tree_nodes.specs.TreeTables.{NodesView, IsTableOf, IsWayTo}
 use Rattle.branch_reading.specs.Readings.{continuation_on, named_of, query_on, reading}
 use Rattle.branch_reading.specs.SettledWays.{is_way_settled}
@@ -58,3 +61,15 @@ pub record LoadsTask (nodes : NodesView) (a : Place) (text : TextView) (t : Task
   pub stands : StandsAtStart nodes a text.clauses t
   pub going : IsSome t.next
   pub text_is : t.region.text ≡ text
+
+-- what the nodes have to know to load a task
+pub record IsLoadablePlace (rows : Rows) (a : Place) : Type 0 where
+  pub there : IsSome (row_of_node rows a.node)
+  pub loadable : HasLoadableBranch rows a
+
+-- in a tree whose entries are numbered, each pending alternative with a plain entry is one
+abbrev pub PlainEntriesLoad : Type 0
+PlainEntriesLoad =
+    (job : Job) (nodes : NodesView) (root : Status) → IsTableOf nodes (reading job) root → IsNumberedStatus root
+    → (v : Level) (up : List Level) (hold : Hold) (f : Continuation ℕ) → plug (v ∷ up) (Pending hold (PlainEntry f)) ≡ root
+    → IsLoadablePlace nodes.rows (place_at v)
