@@ -1,12 +1,11 @@
 //! A task, loaded from the tree.
-ghost use Rattle.std.specs.Prelude.{◌≡◌, ◌<◌, ◌≤◌, ◌^◌, [], IfOk, IsSome, Some, length, map, slice_get};
+ghost use Rattle.std.specs.Prelude.{◌≡◌, ◌<◌, ◌^◌, IfOk, IsSome, length, map, slice_get};
 ghost use Rattle.std.specs.Arc.{arc_value};
 ghost use Rattle.task_region.specs.DeferredItems.{item_of};
 ghost use Rattle.tree_model.specs.EventViews.{place_view};
 ghost use Rattle.tree_nodes.specs.Rows.{row_of_node};
-ghost use Rattle.branch_reading.specs.BranchSegments.{next_number, segments_on};
 ghost use Rattle.branch_reading.specs.SettledWays.{branch_items};
-ghost use Rattle.branch_loading.specs.PlacesUp.{AreAtNodes, AreFallingPlaces, body_at, branching_at, segments_at};
+ghost use Rattle.branch_loading.specs.PlacesUp.{AreFallingPlaces, body_at};
 ghost use Rattle.branch_loading.specs.ScopeHeights.{items_over};
 ghost use Rattle.branch_loading.specs.TaskLoads.{HasLoadableBranch, LoadsTask};
 

@@ -1,5 +1,5 @@
 //! The way up from an alternative.
-ghost use Rattle.std.specs.Prelude.{◌≡◌, ◌≤◌, IfOk, IsSome, None, Some, length, map};
+ghost use Rattle.std.specs.Prelude.{◌≡◌, ◌≤◌, IfOk, IsSome, length, map};
 ghost use Rattle.tree_model.specs.EventViews.{place_view};
 ghost use Rattle.tree_nodes.specs.Bodies.{kind_view};
 ghost use Rattle.tree_nodes.specs.Rows.{row_of_node};
