@@ -149,7 +149,8 @@ module _ (rows : Rows) (a b : RegionView) (above : List Place) (p : Place) (belo
   pub makes_place : (c : RegionView) → Makes a b (bindings_on (segments_at rows above)) → Makes b c (bindings_on (segments_at rows (p ∷ [])))
       → Makes a c (bindings_on (segments_at rows (p ∷ above)))
   makes_place c first second =
-      subst (Makes a c) (sym (one_above rows p above)) (makes_more a b c (bindings_on (segments_at rows above)) (bindings_on (segments_at rows (p ∷ []))) first second)
+      subst (Makes a c) (sym (one_above rows p above)) (makes_more a b c (bindings_on (segments_at rows above))
+      (bindings_on (segments_at rows (p ∷ []))) first second)
 
 -- the next number at a place
 pub next_some : (rows : Rows) (p : Place) (body : Body) (b : Branch) (above : List Place) → body_at rows p ≡ body → slice_get body.branches p.index ≡ Some b
@@ -180,7 +181,8 @@ stored (Some r) b e = cc e
 
 module _ (rows : Rows) (p : Place) (body : Body) (is : body_at rows p ≡ body) where
   pub can_bind_node : (a : RegionView) → CanMake a (bindings_on (segments_at rows (p ∷ []))) → CanMake a body.segment.bindings
-  can_bind_node a can = can_front a body.segment.bindings (own_bindings (slice_get body.branches p.index)) (subst (CanMake a) (place_bindings rows p body is) can)
+  can_bind_node a can = can_front a body.segment.bindings (own_bindings (slice_get body.branches p.index))
+      (subst (CanMake a) (place_bindings rows p body is) can)
 
   module _ (a b : RegionView) (made : Makes a b body.segment.bindings) where
     pub can_bind_branch : (branch : Branch) → slice_get body.branches p.index ≡ Some branch → CanMake a (bindings_on (segments_at rows (p ∷ [])))
@@ -212,7 +214,8 @@ module _ (a b : RegionView) (xs : List Binding) (i : ℕ) (x : Binding) (here : 
 
   pub makes_at : (c : RegionView) → Makes b c (x ∷ []) → Makes a c (take (i + 1) xs)
   makes_at c more =
-      let taken : take (i + 1) xs ≡ take i xs ++ x ∷ [] = ap (λ n. take n xs) (add-one i) ∙ (take-suc xs i x within ∙ ap (λ y. take i xs ++ y ∷ []) (sym here)) in
+      let taken : take (i + 1) xs ≡ take i xs ++ x ∷ [] = ap (λ n. take n xs) (add-one i)
+      ∙ (take-suc xs i x within ∙ ap (λ y. take i xs ++ y ∷ []) (sym here)) in
       subst (Makes a c) (sym taken) (makes_more a b c (take i xs) (x ∷ []) made more)
 
 -- down the places
@@ -221,11 +224,13 @@ module _ (rows : Rows) (a b : RegionView) (xs : List AltRef) (i : ℕ) (d : AltR
   from_here : map place_view (drop i xs) ≡ place_view (get_or xs i d) ∷ map place_view (drop (suc i) xs)
   from_here = ap (map place_view) (drop-cons xs i d within)
 
-  pub can_bind_down : CanMake a (bindings_on (segments_at rows (map place_view xs))) → CanMake b (bindings_on (segments_at rows (place_view (get_or xs i d) ∷ [])))
+  pub can_bind_down : CanMake a (bindings_on (segments_at rows (map place_view xs))) → CanMake b
+      (bindings_on (segments_at rows (place_view (get_or xs i d) ∷ [])))
   can_bind_down can =
       can_bind_place rows a b (map place_view (drop (suc i) xs)) (place_view (get_or xs i d)) (map place_view (take i xs))
       (subst (λ ps. CanMake a (bindings_on (segments_at rows ps)))
-      (ap (map place_view) (sym (take-append-drop i xs)) ∙ (map-append place_view (take i xs) (drop i xs) ∙ ap (λ ps. map place_view (take i xs) ++ ps) from_here)) can) made
+      (ap (map place_view) (sym (take-append-drop i xs)) ∙ (map-append place_view (take i xs) (drop i xs)
+      ∙ ap (λ ps. map place_view (take i xs) ++ ps) from_here)) can) made
 
   pub makes_down : (c : RegionView) → Makes b c (bindings_on (segments_at rows (place_view (get_or xs i d) ∷ [])))
       → Makes a c (bindings_on (segments_at rows (map place_view (drop i xs))))

@@ -28,7 +28,8 @@ heights_same [] s = refl
 heights_same (v ∷ levels) s = ap₂ (cond (v.number == s)) (ap suc (length-places levels)) (heights_same levels s)
 
 renamed_same : (levels : List Level) (i : Item ℕ)
-    → renamed_item (height_among (map place_at levels)) (λ s. height_among (map place_at levels) s - 1) i ≡ renamed_item (height_of levels) (λ s. height_of levels s - 1) i
+    → renamed_item (height_among (map place_at levels)) (λ s. height_among (map place_at levels) s - 1) i ≡ renamed_item (height_of levels)
+    (λ s. height_of levels s - 1) i
 renamed_same levels (GoalItem t s) = ap (GoalItem t) (heights_same levels s)
 renamed_same levels (CatchMark s) = ap (λ h. CatchMark (h - 1)) (heights_same levels s)
 renamed_same levels (CollectMark t s) = ap (λ h. CollectMark t (h - 1)) (heights_same levels s)

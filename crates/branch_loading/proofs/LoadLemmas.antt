@@ -84,7 +84,8 @@ plain_beside (CatchBody catcher recovery) i s f h =
 plain_beside (FindallBody results list) i s f h = ap (λ b. cond b (guard_meant (FindallBody results list) s f) (PlainEntry f)) (not-true (i == 1) h)
 plain_beside QueryBody i s f h = cond_same (i == 1) (PlainEntry f)
 
-pub settled_bindings : (way : Branching) → is_way_settled way ≡ true → are_bindings_settled (next_number (segments_on way)) (bindings_on (segments_on way)) ≡ true
+pub settled_bindings : (way : Branching) → is_way_settled way ≡ true → are_bindings_settled (next_number (segments_on way))
+    (bindings_on (segments_on way)) ≡ true
 settled_bindings [] h = false_true h
 settled_bindings ((b, i) ∷ way) h = (both _ _ h).0
 
@@ -115,7 +116,8 @@ first_place rows a (p ∷ places) h = let same : a ≡ p = cc h.0 in (places, ap
 next_above : (rows : Rows) (p : Place) (above : List Segment) → next_number (segments_above rows p above) ≡ next_number (segments_above rows p [])
 next_above rows p above = by_own (slice_get (body_at rows p).branches p.index)
   where
-    by_own : (o : Option Branch) → next_number (own_segments o ++ (body_at rows p).segment ∷ above) ≡ next_number (own_segments o ++ (body_at rows p).segment ∷ [])
+    by_own : (o : Option Branch) → next_number (own_segments o ++ (body_at rows p).segment ∷ above) ≡ next_number
+        (own_segments o ++ (body_at rows p).segment ∷ [])
     by_own None = refl
     by_own (Some b) = refl
 
@@ -145,7 +147,8 @@ module _ (rows : Rows) (a : Place) (places : List Place) (own : ℕ) (f : Region
   pub can_make_all : CanMake f (bindings_on (segments_at rows (take own places)))
   can_make_all = record { before = []; made = none_made; settled = settled_all }
 
-  pub all_made : (r : RegionView) → Makes f r (bindings_on (segments_at rows (take own places))) → IsMadeBy (bindings_on (segments_at rows (take own places))) r.store.now.bound
+  pub all_made : (r : RegionView) → Makes f r (bindings_on (segments_at rows (take own places)))
+      → IsMadeBy (bindings_on (segments_at rows (take own places))) r.store.now.bound
   all_made r makes = makes.made [] none_made settled_all
 
 -- all items can be deferred
@@ -209,7 +212,8 @@ module _ (nodes : NodesView) (a : Place) (places : List Place) (own : ℕ) (r : 
         let s = or_nothing (bound_by (segments_on way)) in
         ap (with_heights (v ∷ up)) (reads_plain job way can)
         ∙ (entries_by_heights (v ∷ up) s (continuation_on job way)
-        ∙ ap PlainEntry (same_continuation s r.store.now.bound (or_nothing_same (bound_by (segments_on way)) r.store.now.bound unified) (by_heights (v ∷ up) (continuation_on job way))))
+        ∙ ap PlainEntry (same_continuation s r.store.now.bound (or_nothing_same (bound_by (segments_on way)) r.store.now.bound unified)
+        (by_heights (v ∷ up) (continuation_on job way))))
 
     as_many : length (v ∷ up) ≡ length places
     as_many = sym (ap length levels_are ∙ length-places (v ∷ up))
@@ -227,7 +231,8 @@ module _ (nodes : NodesView) (a : Place) (places : List Place) (own : ℕ) (r : 
     stands_there : (clauses : List Clause) → StandsAfter (run_on_branch clauses (v ∷ up) job way) 0 (task_stack (named_of (query_on job way)) t)
     unfolding left
     stands_there clauses =
-        subst (λ (e : Entry). StandsAfter (record { clauses = clauses; levels = v ∷ up; entry = e; deferred = all_deferred left }) 0 (task_stack left.named t)) (sym entry_is)
+        subst (λ (e : Entry). StandsAfter (record { clauses = clauses; levels = v ∷ up; entry = e; deferred = all_deferred left }) 0
+        (task_stack left.named t)) (sym entry_is)
         (starts.stands clauses (v ∷ up) left as_many items_left next_left)
 
     numbers_from : NumbersFrom t.variables (with_heights (v ∷ up) (reading job way))

@@ -25,7 +25,8 @@ catch_test : (b : Bool) (c r : Term) (f g : Continuation ℕ) → PlainEntry g �
 catch_test true c r f g e = let wrong : PlainEntry g ≡ CatchEntry c r f = e in absurd cc
 catch_test false c r f g e = refl
 
-findall_test : (b : Bool) (results : List Term) (l : Term) (f g : Continuation ℕ) → PlainEntry g ≡ cond b (FindallEntry results l f) (PlainEntry f) → not b ≡ true
+findall_test : (b : Bool) (results : List Term) (l : Term) (f g : Continuation ℕ) → PlainEntry g ≡ cond b (FindallEntry results l f) (PlainEntry f)
+    → not b ≡ true
 findall_test true results l f g e = let wrong : PlainEntry g ≡ FindallEntry results l f = e in absurd cc
 findall_test false results l f g e = refl
 
@@ -52,7 +53,8 @@ no_end job ((b, i) ∷ way) f e end =
     let wrong : PlainEntry f ≡ EndEntry end.0 = e ∙ ap (λ items. entry_meant items (entry_if (is_way_settled here) (entry_on job here))) end.1 in
     absurd cc
 
-can_be_loaded : (job : Job) (way : Branching) (f : Continuation ℕ) → PlainEntry f ≡ reading job way → (is_way_settled way ≡ true) ⊎ IsEndOn way → CanBeLoaded way
+can_be_loaded : (job : Job) (way : Branching) (f : Continuation ℕ) → PlainEntry f ≡ reading job way → (is_way_settled way ≡ true) ⊎ IsEndOn way
+    → CanBeLoaded way
 can_be_loaded job way f e (inl settled) = task_settled job way f e settled
 can_be_loaded job way f e (inr end) = no_end job way f e end
 

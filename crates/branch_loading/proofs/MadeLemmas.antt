@@ -33,8 +33,10 @@ once-front : (xs ys : List Binding) → are_bound_once (xs ++ ys) ≡ true → a
 once-front [] ys h = refl
 once-front (x ∷ xs) ys h =
     let parts = both (not (binds_variable x.var (xs ++ ys))) (are_bound_once (xs ++ ys)) h in
-    let none : (binds_variable x.var xs || binds_variable x.var ys) ≡ false = sym (list_any-append (λ b. b.var == x.var) xs ys) ∙ not-true (binds_variable x.var (xs ++ ys)) parts.0 in
-    and-both (not (binds_variable x.var xs)) (are_bound_once xs) (ap not (or-left (binds_variable x.var xs) (binds_variable x.var ys) none)) (once-front xs ys parts.1)
+    let none : (binds_variable x.var xs || binds_variable x.var ys) ≡ false = sym (list_any-append (λ b. b.var == x.var) xs ys)
+    ∙ not-true (binds_variable x.var (xs ++ ys)) parts.0 in
+    and-both (not (binds_variable x.var xs)) (are_bound_once xs) (ap not (or-left (binds_variable x.var xs) (binds_variable x.var ys) none))
+    (once-front xs ys parts.1)
 
 once-last : (xs : List Binding) (b : Binding) → are_bound_once (xs ++ b ∷ []) ≡ true → binds_variable b.var xs ≡ false
 once-last [] b h = refl
@@ -59,7 +61,8 @@ pub settled-front : (next : ℕ) (xs ys : List Binding) → are_bindings_settled
 settled-front next xs ys h =
     let p = both (list_all (is_binding_settled next) (xs ++ ys)) (are_bound_once (xs ++ ys) && is_some (unifier (binding_equations (xs ++ ys)))) h in
     let q = both (are_bound_once (xs ++ ys)) (is_some (unifier (binding_equations (xs ++ ys)))) p.1 in
-    let all = both (list_all (is_binding_settled next) xs) (list_all (is_binding_settled next) ys) (sym (list_all-append (is_binding_settled next) xs ys) ∙ p.0) in
+    let all = both (list_all (is_binding_settled next) xs) (list_all (is_binding_settled next) ys)
+    (sym (list_all-append (is_binding_settled next) xs ys) ∙ p.0) in
     and-both (list_all (is_binding_settled next) xs) (are_bound_once xs && is_some (unifier (binding_equations xs))) all.0
     (and-both (are_bound_once xs) (is_some (unifier (binding_equations xs))) (once-front xs ys q.0) (unified-front xs ys q.1))
 
@@ -74,7 +77,8 @@ last_settled next before b h =
     let xs = before ++ b ∷ [] in
     let p = both (list_all (is_binding_settled next) xs) (are_bound_once xs && is_some (unifier (binding_equations xs))) h in
     let q = both (are_bound_once xs) (is_some (unifier (binding_equations xs))) p.1 in
-    let all = both (list_all (is_binding_settled next) before) (is_binding_settled next b && true) (sym (list_all-append (is_binding_settled next) before (b ∷ [])) ∙ p.0) in
+    let all = both (list_all (is_binding_settled next) before) (is_binding_settled next b && true)
+    (sym (list_all-append (is_binding_settled next) before (b ∷ [])) ∙ p.0) in
     record {
       binding = (both (is_binding_settled next b) true all.1).0;
       free = once-last before b q.0;
@@ -141,7 +145,8 @@ module _ (next : ℕ) (before : List Binding) (b : Binding) (s u : Substitution)
       cc
 
   whole : unifier (binding_equations before ++ equation_of b ∷ []) ≡ option_map (after u) (unifier one)
-  whole = front_first (binding_equations before) (equation_of b ∷ []) ∙ (ap (λ o. further_unified o (equation_of b ∷ [])) is ∙ ap (λ es. option_map (after u) (unifier es)) resolved)
+  whole = front_first (binding_equations before) (equation_of b ∷ []) ∙ (ap (λ o. further_unified o (equation_of b ∷ [])) is
+      ∙ ap (λ es. option_map (after u) (unifier es)) resolved)
 
   some_one : is_some (unifier one) ≡ true
   some_one = some_mapped (unifier one) (sym (ap is_some whole) ∙ h.unified)

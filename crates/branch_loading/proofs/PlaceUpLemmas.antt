@@ -89,12 +89,14 @@ no_part rows = refl
 
 pub part_ends : (rows : Rows) (p : Place) (places : List Place) → is_query_body (body_at rows p).kind ≡ true → IsQueryPart rows (p ∷ places) 1
 part_ends rows p places e =
-    ap (segments_above rows p) (above_by (body_at rows p).kind (segments_on (branching_at rows places)) ∙ ap (λ b. cond b [] (segments_on (branching_at rows places))) e)
+    ap (segments_above rows p) (above_by (body_at rows p).kind (segments_on (branching_at rows places))
+    ∙ ap (λ b. cond b [] (segments_on (branching_at rows places))) e)
 
 pub part_goes_on : (rows : Rows) (p : Place) (places : List Place) (n : ℕ) → is_query_body (body_at rows p).kind ≡ false → IsQueryPart rows places n
     → IsQueryPart rows (p ∷ places) (suc n)
 part_goes_on rows p places n e h =
-    ap (segments_above rows p) (above_by (body_at rows p).kind (segments_on (branching_at rows places)) ∙ (ap (λ b. cond b [] (segments_on (branching_at rows places))) e ∙ h))
+    ap (segments_above rows p) (above_by (body_at rows p).kind (segments_on (branching_at rows places))
+    ∙ (ap (λ b. cond b [] (segments_on (branching_at rows places))) e ∙ h))
 
 -- while the way up is walked
 abbrev pub IsThere : Rows → Option Place → Type 0
@@ -125,7 +127,8 @@ pub step_up : (rows : Rows) (p : Place) (above : Option Place) → is_some (row_
     → IsAbove rows above p.node → IsStepUp rows p above
 step_up rows p above there parent h = by_row (row_of_node rows p.node) refl there (parent)
   where
-    by_row : (o : Option StoredNode) → row_of_node rows p.node ≡ o → is_some o ≡ true → option_map (λ r. r.parent) (row_of_node rows p.node) ≡ Some above → IsStepUp rows p above
+    by_row : (o : Option StoredNode) → row_of_node rows p.node ≡ o → is_some o ≡ true
+        → option_map (λ r. r.parent) (row_of_node rows p.node) ≡ Some above → IsStepUp rows p above
     by_row None e s k = false_true s
     by_row (Some r) e s k =
         let same : Some r.parent ≡ Some above = sym (ap (option_map (λ (x : StoredNode). x.parent)) e) ∙ k in
@@ -144,7 +147,8 @@ module _ (rows : Rows) (xs : List AltRef) (i : ℕ) (d : AltRef) (within : i < l
 
   module _ (count : ℕ) (part : (n : ℕ) → IsQueryPart rows (map place_view (drop i xs)) n → IsQueryPart rows (map place_view xs) (count + n)) where
     pub part_here : is_query_body (body_at rows (place_view (get_or xs i d))).kind ≡ true → IsQueryPart rows (map place_view xs) (count + 1)
-    part_here e = part 1 (subst (λ ps. IsQueryPart rows ps 1) (sym from_here) (part_ends rows (place_view (get_or xs i d)) (map place_view (drop (suc i) xs)) e))
+    part_here e = part 1 (subst (λ ps. IsQueryPart rows ps 1) (sym from_here) (part_ends rows (place_view (get_or xs i d))
+        (map place_view (drop (suc i) xs)) e))
 
     pub part_after : is_query_body (body_at rows (place_view (get_or xs i d))).kind ≡ false → (n : ℕ)
         → IsQueryPart rows (map place_view (drop (i + 1) xs)) n → IsQueryPart rows (map place_view xs) (count + 1 + n)

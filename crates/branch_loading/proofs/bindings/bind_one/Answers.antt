@@ -19,5 +19,6 @@ returns c =
     let new = c.bind.new.self in
     let value = c.in_ok-value.value in
     let same : c.in-Ok.variable ≡ c.args.binding.now.var = omega (arith, c.in-Ok.ensures.1) in
-    makes_one old mid c.args.binding.now value c.copy_in.ensures.text c.in_ok-value.ensures.there c.in_ok-value.ensures.term new c.copy_in.ensures.stays.others c.bind.ensures.stays.others
+    makes_one old mid c.args.binding.now value c.copy_in.ensures.text c.in_ok-value.ensures.there c.in_ok-value.ensures.term new
+    c.copy_in.ensures.stays.others c.bind.ensures.stays.others
     (subst (λ v. BindsFurther mid.store new.store ((v, meaning mid.store value) ∷ [])) same c.in_ok-bind.ensures.ok)

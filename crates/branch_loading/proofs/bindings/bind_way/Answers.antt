@@ -18,7 +18,8 @@ bind_place-requires-clause-can c =
     let next : c.loop-left.left ≡ suc (c.loop-left.left - 1) = omega (arith, some) in
     can_bind_down c.args.nodes.now.rows c.args.region.now c.loop-left.region c.args.places.now (c.loop-left.left - 1) (record { node = 0; alternative = 0 })
     (let within = c.loop-left.invariant.within in omega (arith, within, some))
-    (subst (λ n. Makes c.args.region.now c.loop-left.region (bindings_on (segments_at c.args.nodes.now.rows (map place_view (drop n c.args.places.now))))) next c.loop-left.invariant.made)
+    (subst (λ n. Makes c.args.region.now c.loop-left.region (bindings_on (segments_at c.args.nodes.now.rows
+    (map place_view (drop n c.args.places.now))))) next c.loop-left.invariant.made)
     c.requires.can
 
 pub loop-left-preserved : goal.loop-left-preserved
@@ -28,13 +29,16 @@ loop-left-preserved c =
     let next : c.loop-left.left ≡ suc (c.loop-left.left - 1) = omega (arith, some) in
     record {
       within = omega (arith, within);
-      made = makes_down c.args.nodes.now.rows c.args.region.now c.loop-left.region c.args.places.now (c.loop-left.left - 1) (record { node = 0; alternative = 0 })
+      made = makes_down c.args.nodes.now.rows c.args.region.now c.loop-left.region c.args.places.now (c.loop-left.left - 1)
+          (record { node = 0; alternative = 0 })
           (omega (arith, within, some))
-          (subst (λ n. Makes c.args.region.now c.loop-left.region (bindings_on (segments_at c.args.nodes.now.rows (map place_view (drop n c.args.places.now))))) next c.loop-left.invariant.made)
+          (subst (λ n. Makes c.args.region.now c.loop-left.region (bindings_on (segments_at c.args.nodes.now.rows
+          (map place_view (drop n c.args.places.now))))) next c.loop-left.invariant.made)
           c.bind_place.new.region c.in_ok-bind_place.ensures;
     }
 
 pub returns : goal.returns
 returns c =
     let none : c.loop-left.left ≡ 0 = let end = c.loop-left-test.false in omega (arith, end) in
-    subst (λ n. Makes c.args.region.now c.loop-left.region (bindings_on (segments_at c.args.nodes.now.rows (map place_view (drop n c.args.places.now))))) none c.loop-left.invariant.made
+    subst (λ n. Makes c.args.region.now c.loop-left.region (bindings_on (segments_at c.args.nodes.now.rows
+    (map place_view (drop n c.args.places.now))))) none c.loop-left.invariant.made

@@ -53,10 +53,13 @@ new-requires-2-clause-deferred c =
     let xs = c.in_ok-places.places.items in
     let fresh = c.in_ok-fresh.ensures.ok ∙ ap (λ (r : RegionView). record r { store = with_numbers c.in_ok-next.next r.store }) c.in_ok-region.ensures in
     let next : c.bind_way.new.region.store.now.next ≡ next_number (segments_at rows (place_view c.args.at ∷ []))
-    = c.in_ok-bind_way.ensures.next ∙ ap (λ (r : RegionView). r.store.now.next) fresh ∙ (let e : 0 + c.in_ok-next.next ≡ c.in_ok-next.next = omega arith in e) ∙ c.in_ok-next.ensures in
+    = c.in_ok-bind_way.ensures.next ∙ ap (λ (r : RegionView). r.store.now.next) fresh
+    ∙ (let e : 0 + c.in_ok-next.next ≡ c.in_ok-next.next = omega arith in e) ∙ c.in_ok-next.ensures in
     let floor : length (map place_view xs) ≡ c.in-Ok.floor = let many = length-map xs place_view in omega (arith, many, c.in-Ok.ensures.1, c.len.ensures) in
-    let items : map item_of c.in_ok-deferred.deferred.items ≡ items_over (map place_view xs) (branch_items (slice_get (body_at rows (place_view c.args.at)).branches c.args.at.alternative))
-    = c.in_ok-deferred.ensures ∙ ap (λ ys. items_over (map place_view ys) (branch_items (slice_get (body_at rows (place_view c.args.at)).branches c.args.at.alternative))) c.deref.ensures.value in
+    let items : map item_of c.in_ok-deferred.deferred.items ≡ items_over (map place_view xs)
+    (branch_items (slice_get (body_at rows (place_view c.args.at)).branches c.args.at.alternative))
+    = c.in_ok-deferred.ensures ∙ ap (λ ys. items_over (map place_view ys) (branch_items
+    (slice_get (body_at rows (place_view c.args.at)).branches c.args.at.alternative))) c.deref.ensures.value in
     subst (λ n. Each (IsDeferredOver c.bind_way.new.region.store.now.next n) (map item_of c.in_ok-deferred.deferred.items)) floor
     (subst (Each (IsDeferredOver c.bind_way.new.region.store.now.next (length (map place_view xs)))) (sym items)
     (all_deferred_over rows (place_view c.args.at) (map place_view xs) c.bind_way.new.region.store.now.next c.requires.loadable c.in_ok-places.ensures next))
@@ -73,8 +76,10 @@ returns c =
     let started : c.fresh.new.self.store.now.next ≡ next_number (segments_at rows (a ∷ []))
     = ap (λ (r : RegionView). r.store.now.next) fresh ∙ (let e : 0 + c.in_ok-next.next ≡ c.in_ok-next.next = omega arith in e) ∙ c.in_ok-next.ensures in
     let floor : length (map place_view xs) ≡ c.in-Ok.floor = let many = length-map xs place_view in omega (arith, many, c.in-Ok.ensures.1, c.len.ensures) in
-    let items : map item_of c.in_ok-deferred.deferred.items ≡ items_over (map place_view xs) (branch_items (slice_get (body_at rows a).branches c.args.at.alternative))
-    = c.in_ok-deferred.ensures ∙ ap (λ ys. items_over (map place_view ys) (branch_items (slice_get (body_at rows a).branches c.args.at.alternative))) c.deref.ensures.value in
+    let items : map item_of c.in_ok-deferred.deferred.items ≡ items_over (map place_view xs)
+    (branch_items (slice_get (body_at rows a).branches c.args.at.alternative))
+    = c.in_ok-deferred.ensures ∙ ap (λ ys. items_over (map place_view ys) (branch_items (slice_get (body_at rows a).branches c.args.at.alternative)))
+    c.deref.ensures.value in
     let makes = subst (λ ps. Makes c.fresh.new.self r (bindings_on (segments_at rows ps)))
     (sym (take-map place_view own xs ∙ ap (λ ys. map place_view (take own ys)) (sym c.deref-3.ensures.value))) c.in_ok-bind_way.ensures in
     record {
@@ -82,7 +87,8 @@ returns c =
           (record {
             leads = c.in_ok-places.ensures;
             part = part;
-            made = all_made rows a (map place_view xs) own c.fresh.new.self c.requires.loadable c.in_ok-places.ensures part (ap (λ (r : RegionView). r.store.now.bound) fresh) started r makes;
+            made = all_made rows a (map place_view xs) own c.fresh.new.self c.requires.loadable c.in_ok-places.ensures part
+                (ap (λ (r : RegionView). r.store.now.bound) fresh) started r makes;
             next = c.in_ok-bind_way.ensures.next ∙ started;
             items_are = items;
           })

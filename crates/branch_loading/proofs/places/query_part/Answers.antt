@@ -21,5 +21,6 @@ loop-place-preserved c = record {
       let is = stored (row_of_node rows _) body c.body.ensures.body in
       part_after rows c.args.places.now c.loop-place.place-index (record { node = 0; alternative = 0 }) c.loop-place-test.true
       c.loop-place.count c.loop-place.invariant.part
-      (ap (λ (b : Body). is_query_body b.kind) is ∙ (ap (λ (b : NodeBody). is_query_body (kind_view b.kind)) (sym c.deref.ensures) ∙ (sym c.is_query.ensures ∙ c.if-is_query.false)));
+      (ap (λ (b : Body). is_query_body b.kind) is ∙ (ap (λ (b : NodeBody). is_query_body (kind_view b.kind)) (sym c.deref.ensures)
+      ∙ (sym c.is_query.ensures ∙ c.if-is_query.false)));
 }
