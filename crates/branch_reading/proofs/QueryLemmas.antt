@@ -49,10 +49,12 @@ nothing_bound = refl
 abbrev begun : ℕ → List NamedTerm → ℕ → List Term → Entry
 begun n named next gs = PlainEntry (record { items = goals_at n gs; named = named; next = next })
 
-query_goals : (n : ℕ) (q : Query) → entry_bound QueryBody 0 (record { items = goals_at n q.goals; named = own_terms q.names; next = query_bound q }) (or_nothing (unifier [])) ≡ begun n (own_terms q.names) (query_bound q) q.goals
+query_goals : (n : ℕ) (q : Query) → entry_bound QueryBody 0 (record { items = goals_at n q.goals; named = own_terms q.names; next = query_bound q })
+    (or_nothing (unifier [])) ≡ begun n (own_terms q.names) (query_bound q) q.goals
 query_goals n q =
     ap (λ o. entry_bound QueryBody 0 (record { items = goals_at n q.goals; named = own_terms q.names; next = query_bound q }) (or_nothing o)) nothing_bound
-    ∙ ap₂ (λ items named. PlainEntry (record { items = items; named = named; next = query_bound q })) (goals_as_they_are n q.goals) (own_terms_as_they_are q.names)
+    ∙ ap₂ (λ items named. PlainEntry (record { items = items; named = named; next = query_bound q })) (goals_as_they_are n q.goals)
+    (own_terms_as_they_are q.names)
 
 -- so many variables from 0 on, with nothing bound
 abbrev taking : ℕ → Segment
@@ -80,7 +82,8 @@ first_settled n q =
 
 first_begins : (n : ℕ) (q : Query) → first_read (goals_in n q.goals) (Some q) (query_bound q) ≡ begun n (own_terms q.names) (query_bound q) q.goals
 first_begins n q =
-    let read : List (Item ℕ) → Entry = λ items. entry_bound QueryBody 0 (record { items = items; named = own_terms q.names; next = query_bound q }) (or_nothing (unifier [])) in
+    let read : List (Item ℕ) → Entry = λ items. entry_bound QueryBody 0 (record { items = items; named = own_terms q.names; next = query_bound q })
+    (or_nothing (unifier [])) in
     ap (λ settled. entry_meant (goals_in n q.goals) (entry_if settled (read (items_meant (goals_in n q.goals))))) (first_settled n q)
     ∙ goals_are_no_end n q.goals (read (items_meant (goals_in n q.goals))) ∙ ap read (items_of_goals n q.goals) ∙ query_goals n q
 
@@ -91,10 +94,12 @@ made_opens : (goals : List BranchItem) (vars : ℕ) (end : Branch) → end.goals
 made_opens goals vars end ends job way n q here gs vs =
     ap₂ (λ a b. Numbered n QueryNode (alternative 0 (Pending Ready a) (alternative 0 (Pending Dormant b) none)))
     (three first_read gs here (let e : 0 + vars ≡ query_bound q = omega (vs, arith) in e) ∙ first_begins n q)
-    (ap (λ items. entry_meant items (entry_if (is_way_settled ((query_made goals vars end, 1) ∷ way)) (entry_on job ((query_made goals vars end, 1) ∷ way)))) ends)
+    (ap (λ items. entry_meant items (entry_if (is_way_settled ((query_made goals vars end, 1) ∷ way))
+    (entry_on job ((query_made goals vars end, 1) ∷ way)))) ends)
 
 pub opens : (goals : List BranchItem) (vars : ℕ) (end : Branch) (body : Body) → end.goals ≡ End None ∷ []
-    → body.segment ≡ taking 0 → body.branches ≡ record { goals = goals; segment = taking vars } ∷ end ∷ [] → body.kind ≡ QueryBody → MakesQueryNode goals vars body
+    → body.segment ≡ taking 0 → body.branches ≡ record { goals = goals; segment = taking vars } ∷ end ∷ [] → body.kind ≡ QueryBody
+    → MakesQueryNode goals vars body
 opens goals vars end body ends s bs k =
     let same : query_made goals vars end ≡ body = three (λ s bs k. record { segment = s; branches = bs; kind = k }) (sym s) (sym bs) (sym k) in
     subst (MakesQueryNode goals vars) same (made_opens goals vars end ends)

@@ -46,7 +46,8 @@ settled_by job way false e h = inr (numbered_or_end (items_on way) h way refl)
 
 pub numbered_trees_are_settled : NumberedTreesAreSettled
 numbered_trees_are_settled job nodes root stands numbered v up hold entry same way on =
-    let placed : IsIn nodes.rows (reading job) [] None (plug (v ∷ up) (Pending hold entry)) = subst (IsIn nodes.rows (reading job) [] None) (sym same) stands.placed in
+    let placed : IsIn nodes.rows (reading job) [] None (plug (v ∷ up) (Pending hold entry)) = subst (IsIn nodes.rows (reading job) [] None) (sym same)
+    stands.placed in
     let k = taken_out nodes.rows (reading job) (v ∷ up) (Pending hold entry) placed in
     let here : k.way ≡ way = way_same nodes.rows (reading job) (v ∷ up) k.way way (PendingCell hold) k.around on in
     let reads : entry ≡ reading job way = k.inside ∙ ap (reading job) here in

@@ -1,5 +1,5 @@
 -- The trees of jobs whose queries fail, between their events.
-use Rattle.std.proofs.Common.{◌≡◌, ℕ, ◌+◌, ◌==◌, Bool, true, false, List, [], ◌∷◌, Option, Some, None, refl, sym, ap, ap₂, ◌∙◌, subst}
+use Rattle.std.proofs.Common.{◌≡◌, ℕ, ◌+◌, ◌==◌, Bool, true, false, List, [], ◌∷◌, Option, Some, None, refl, sym, ap, ap₂, ◌∙◌, subst, arith}
 use Rattle.std.proofs.lemmas.Bool.{eqb-true}
 use Rattle.std.specs.Prelude.{codes, is_some, IsSome, slice_get}
 use Rattle.au_term.specs.Term.{AtomTerm}
@@ -18,6 +18,7 @@ use Rattle.tree_model.specs.FrontGates.{QueryEnds}
 use Rattle.tree_model.specs.Legality.{taken_at, gate_of, run_of, run_is_empty, is_legal}
 use Rattle.tree_model.specs.Levels.{Place, Spot, levels_of}
 use Rattle.tree_model.specs.Nodes.{QueryNode, ChoiceNode, WorldGate, TakenBy, Dormant, Node, Numbered, none, alternative, Pending, Inner, Closed}
+use Rattle.tree_model.specs.NumberedTrees.{IsNumberedNode}
 use Rattle.tree_model.specs.PrivateRuns.{private_run}
 use Rattle.tree_model.specs.SoundTrees.{one_if}
 use Rattle.tree_nodes.specs.Bodies.{Body, BodyKind, ChoiceBody, ConditionBody, CatchBody, FindallBody, QueryBody, Branching, node_kind}
@@ -30,7 +31,8 @@ use Rattle.branch_reading.specs.Readings.{reading, entry_meant, entry_bound, ent
 use Rattle.branch_reading.specs.QueryNodes.{goals_in, IsQueryBody, IsEndAsleep}
 use Rattle.public_tree.specs.PublicTrees.{is_going}
 use Rattle.public_tree.specs.Answering.{taken_as, front_credit, ReadsAsNext}
-use Rattle.tree_core.specs.Histories.{History, state_of, with_event}
+use Rattle.branch_loading.specs.TaskLoads.{IsLoadablePlace, PlainEntriesLoad}
+use Rattle.tree_core.specs.Histories.{History, TreeView, NodesStand, state_of, with_event}
 use Rattle.tree_core.specs.Openings.{IsFirstOf}
 use Rattle.tree_core.specs.declared.query.QueryGoals.{QueryGoals}
 use Rattle.core_tests.specs.FailingQueries.{failing_query, failing_job, failing_history, StartsFailing, at_place}
@@ -315,3 +317,20 @@ second_claimed j h s e = ap with_claim (e ∙ ap (λ i. failing_history i 4) s) 
 pub first_is : (j : Job) (given : QueryGoals) → StartsFailing j → given.goals ≡ goals_in 0 (AtomTerm (codes "fail") ∷ []) → given.vars ≡ 0
     → IsFirstOf j.queries (Some given)
 first_is j given s e v = subst (λ i. IsFirstOf i.queries (Some given)) (sym s.1) (record { goals = e; vars = v })
+
+-- the goal can be loaded
+goal_numbered : (n : ℕ) → IsNumberedNode (goal_node n)
+goal_numbered n = (record { items = (omega arith, tt); named = tt }, (tt, tt))
+
+goal_loads_here : PlainEntriesLoad → (further : List Query) (nodes : NodesView) → IsTableOf nodes (reading (here further)) (state_of (after further 1)).root
+    → IsLoadablePlace nodes.rows (at_place 0 0)
+goal_loads_here law further nodes stands =
+    let s = spot_1 further in
+    law (here further) nodes (Inner (goal_node 0)) (subst (IsTableOf nodes (reading (here further))) (root_1 further) stands) (goal_numbered 0)
+    s.level [] (TakenBy 1) (record { items = GoalItem (AtomTerm (codes "fail")) 0 ∷ []; named = []; next = 0 }) refl
+
+pub goal_loads : PlainEntriesLoad → (j : Job) (v : TreeView) → StartsFailing j → v.history ≡ failing_history j 1 → NodesStand v
+    → IsLoadablePlace v.nodes.rows (at_place 0 0)
+goal_loads law j v s e stands =
+    goal_loads_here law s.0 v.nodes
+    (subst (λ h. IsTableOf v.nodes (reading h.job) (state_of h).root) (e ∙ ap (λ i. failing_history i 1) s.1) stands.placed)

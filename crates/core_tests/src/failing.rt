@@ -3,6 +3,8 @@ ghost use Rattle.std.specs.Prelude.{◌≡◌, [], ◌∷◌, IfOk};
 ghost use Rattle.core_tests.specs.FailingQueries.{failing_query, failing_job, failing_history, StartsFailing};
 
 use crate::hand_runs::{claim, end, fail, goals, open_next};
+use crate::loaded::run_loaded;
+use branch_loading::laws::plain_entries_load;
 use public_tree::Answering;
 use run_model::RunEnding;
 use std::alloc::Global;
@@ -115,4 +117,27 @@ fn open_second<J: JobBrand>(rt: &impl Abort, alloc: Global) -> Result<(), Fail>
 #[test]
 fn second_query(rt: HostRuntime) -> Result<(), Fail> {
     open_second::<Brand>(&rt, rt.alloc())
+}
+
+/// The goal of the first query, run by itself: it fails by its first inference, as the tree is told.
+fn load_first<J: JobBrand>(rt: &impl Abort, alloc: Global) -> Result<(), Fail>
+    requires { StartsFailing J.job }
+{
+    let mut tree = opened::<J>(alloc)?;
+    let goal = AltRef {
+        node: 0,
+        alternative: 0,
+    };
+    expect(rt, claim(&mut tree)?, Some(goal));
+    // The proof reads off for what tree the nodes stand, and that it can be loaded.
+    tree.keeps_promises();
+    plain_entries_load();
+    let ran = run_loaded(alloc, tree.nodes(), goal)?;
+    expect(rt, ran, (1, true));
+    Ok(())
+}
+
+#[test]
+fn loaded_query(rt: HostRuntime) -> Result<(), Fail> {
+    load_first::<Brand>(&rt, rt.alloc())
 }

@@ -6,3 +6,5 @@
 mod failing;
 #[cfg(test)]
 mod hand_runs;
+#[cfg(test)]
+mod loaded;

@@ -2,6 +2,7 @@
 ghost use Rattle.std.specs.Prelude.{◌≡◌, [], IfOk, IfSome};
 ghost use Rattle.run_model.specs.Machine.Runs.{text_of, ending_of};
 ghost use Rattle.tree_model.specs.Events.{Stop};
+ghost use Rattle.tree_model.specs.LegalTrees.{IsLegalTree};
 ghost use Rattle.tree_model.specs.TreeStates.{ended, counts};
 ghost use Rattle.public_tree.specs.PublicTrees.{is_going};
 ghost use Rattle.tree_core.specs.Histories.{state_of, while_going, NodesStand};
@@ -11,6 +12,7 @@ ghost use Rattle.tree_core.specs.KeptPromises.{KeepsPromises, AreFinalCounts};
 use crate::brand::JobBrand;
 use crate::query::{QueryGoals, first_body};
 use au_term::NoMemory;
+use interleaving::laws::trees::events_keep_trees;
 use public_tree::PublicTree;
 use public_tree::laws::promises_are_kept;
 use run_model::RunEnding;
@@ -66,6 +68,15 @@ impl<J: JobBrand> Tree<J> {
         ensures nodes { NodesStand self.now }
     {
         promises_are_kept();
+        // The proof reads the fields' invariant.
+        let _public = &self.public;
+    }
+
+    /// That the tree keeps what the tree of every legal history keeps; the call does nothing.
+    pub fn stays_legal(&self)
+        ensures { IsLegalTree (state_of self.now.history) }
+    {
+        events_keep_trees();
         // The proof reads the fields' invariant.
         let _public = &self.public;
     }

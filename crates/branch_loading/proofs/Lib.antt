@@ -1,0 +1,6 @@
+mod MadeLemmas
+mod PlaceUpLemmas
+mod HeightLemmas
+mod BindingLemmas
+mod LoadLemmas
+mod LoadableLemmas

@@ -1,0 +1,4 @@
+pub mod PlacesUp
+pub mod MadeInTurn
+pub mod ScopeHeights
+pub mod TaskLoads

@@ -1,0 +1,65 @@
+//! A task, loaded from the tree.
+ghost use Rattle.std.specs.Prelude.{◌≡◌, ◌<◌, ◌^◌, IfOk, IsSome, length, map, slice_get};
+ghost use Rattle.std.specs.Arc.{arc_value};
+ghost use Rattle.task_region.specs.DeferredItems.{item_of};
+ghost use Rattle.tree_model.specs.EventViews.{place_view};
+ghost use Rattle.tree_nodes.specs.Rows.{row_of_node};
+ghost use Rattle.branch_reading.specs.SettledWays.{branch_items};
+ghost use Rattle.branch_loading.specs.PlacesUp.{AreFallingPlaces, body_at};
+ghost use Rattle.branch_loading.specs.ScopeHeights.{items_over};
+ghost use Rattle.branch_loading.specs.TaskLoads.{HasLoadableBranch, LoadsTask};
+
+use crate::bindings::{bind_way, next_at};
+use crate::items::deferred_items;
+use crate::places::{places_up, query_part};
+use au_term::NoMemory;
+use region_split::{Region, Text};
+use std::alloc::Global;
+use std::sync::Arc;
+use task_region::{DeferredItem, TaskRegion};
+use tree_model::AltRef;
+use tree_nodes::Nodes;
+
+/// The region of a task: what is bound on the branch of an alternative is bound there, and what that has left to do is
+/// deferred. The nodes have to know the branch, which has to be settled; a recovery or a findall that sleeps is no task.
+pub fn load_task(
+    nodes: &Nodes,
+    at: AltRef,
+    alloc: Global,
+    text: Arc<Text>,
+) -> Result<TaskRegion, NoMemory>
+    requires there { IsSome (row_of_node nodes.now.rows at.node) }
+    requires loadable { HasLoadableBranch nodes.now.rows (place_view at) }
+    ensures loads { IfOk result (LoadsTask nodes.now (place_view at) (arc_value text)) }
+{
+    let places = places_up(nodes, at, alloc)?;
+    let Ok(floor) = u32::try_from(places.len()) else {
+        return Err(NoMemory);
+    };
+    let deferred = items_at(nodes, at, alloc, &places)?;
+    let next = next_at(nodes, at)?;
+    let own = query_part(nodes, &places);
+    let mut region = Region::new(alloc, text)?;
+    region.fresh(next)?;
+    bind_way(&mut region, nodes, &places[..own])?;
+    let task = TaskRegion::new(region, floor, deferred)?;
+    Ok(task)
+}
+
+// What an alternative has left to do.
+fn items_at(
+    nodes: &Nodes,
+    at: AltRef,
+    alloc: Global,
+    places: &[AltRef],
+) -> Result<Vec<DeferredItem>, NoMemory>
+    requires there { IsSome (row_of_node nodes.now.rows at.node) }
+    requires falling { AreFallingPlaces (map place_view places.now) }
+    requires few { length places.now < 2 ^ 32 }
+    ensures { IfOk result (λ items. map item_of items.items ≡ items_over (map place_view places.now) (branch_items (slice_get (body_at nodes.now.rows (place_view at)).branches at.alternative))) }
+{
+    match nodes.body(at.node).branches.get(at.alternative as usize) {
+        Some(branch) => deferred_items(alloc, &branch.goals, places),
+        None => Ok(Vec::new(alloc)),
+    }
+}
