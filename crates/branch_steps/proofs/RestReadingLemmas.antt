@@ -1,6 +1,7 @@
 -- Below a settled branch, what is left behind its first goal.
 use Rattle.std.proofs.Common.{◌≡◌, ℕ, ◌+◌, ◌≤◌, ◌&&◌, Bool, true, false, List, [], ◌∷◌, Option, Some, None, is_some, slice_get, refl, sym, ap, ap₂, ◌∙◌, subst, arith}
 use Rattle.std.specs.List.{list_all}
+use Rattle.au_term.proofs.LogicLemmas.{and-left, and-right}
 use Rattle.au_model.specs.Terms.MostGeneral.{SameValues}
 use Rattle.au_model.specs.Terms.Substitutions.{Substitution}
 use Rattle.au_term.specs.declared.segment.Segment.{Segment}
@@ -20,31 +21,23 @@ use Rattle.branch_shapes.proofs.ExtendedWayLemmas.{branches_read_bound}
 use Rattle.branch_shapes.proofs.SettledSegmentLemmas.{settled_segments_bind, empty_segments_lead}
 use Rattle.branch_steps.specs.RestBodies.{IsRestBody, RestBodiesRead, items_left, quiet_segment, rest_continuation}
 
-left_of : (a b : Bool) → (a && b) ≡ true → a ≡ true
-left_of true b h = refl
-left_of false b h = absurd cc
-
-right_of : (a b : Bool) → (a && b) ≡ true → b ≡ true
-right_of true b h = h
-right_of false b h = absurd cc
-
 -- what is settled of a branch
 pub segments_settled : (way : Branching) → is_way_settled way ≡ true → are_segments_settled (segments_on way) ≡ true
 segments_settled [] h = absurd cc
-segments_settled ((b, i) ∷ up) h = left_of (are_segments_settled (segments_on ((b, i) ∷ up))) (is_branch_settled (next_number (segments_on ((b, i) ∷ up))) b.kind i (items_on ((b, i) ∷ up))) h
+segments_settled ((b, i) ∷ up) h = and-left (are_segments_settled (segments_on ((b, i) ∷ up))) (is_branch_settled (next_number (segments_on ((b, i) ∷ up))) b.kind i (items_on ((b, i) ∷ up))) h
 
 pub items_settled : (way : Branching) → is_way_settled way ≡ true → list_all (is_item_settled (next_number (segments_on way))) (items_on way) ≡ true
 items_settled [] h = absurd cc
 items_settled ((b, i) ∷ up) h =
     let whole : Branching = (b, i) ∷ up in
-    left_of (list_all (is_item_settled (next_number (segments_on whole))) (items_on whole)) _
-    (right_of (are_segments_settled (segments_on whole)) (is_branch_settled (next_number (segments_on whole)) b.kind i (items_on whole)) h)
+    and-left (list_all (is_item_settled (next_number (segments_on whole))) (items_on whole)) _
+    (and-right (are_segments_settled (segments_on whole)) (is_branch_settled (next_number (segments_on whole)) b.kind i (items_on whole)) h)
 
 left_settled : (next : ℕ) (items : List BranchItem) → list_all (is_item_settled next) items ≡ true → list_all (is_item_settled next) (items_left items) ≡ true
 left_settled next [] h = refl
-left_settled next (Goal term cut ∷ items) h = right_of (is_item_settled next (Goal term cut)) (list_all (is_item_settled next) items) h
+left_settled next (Goal term cut ∷ items) h = and-right (is_item_settled next (Goal term cut)) (list_all (is_item_settled next) items) h
 left_settled next (CatchEnd scope ∷ items) h = left_settled next items h
-left_settled next (Collect template scope ∷ items) h = right_of (is_item_settled next (Collect template scope)) (list_all (is_item_settled next) items) h
+left_settled next (Collect template scope ∷ items) h = and-right (is_item_settled next (Collect template scope)) (list_all (is_item_settled next) items) h
 left_settled next (Remove id ∷ items) h = h
 left_settled next (End ball ∷ items) h = absurd cc
 
@@ -57,7 +50,7 @@ pub bound_there : (way : Branching) → is_way_settled way ≡ true → SameValu
 bound_there way settled =
     let bs = bindings_on (segments_on way) in
     bound_is_some (bound_by (segments_on way))
-    (right_of (are_bound_once bs) _ (right_of (list_all (is_binding_settled (next_number (segments_on way))) bs) _ (segments_settled way settled)))
+    (and-right (are_bound_once bs) _ (and-right (list_all (is_binding_settled (next_number (segments_on way))) bs) _ (segments_settled way settled)))
 
 and_true : (a : Bool) → a ≡ true → (a && true) ≡ true
 and_true true h = refl
