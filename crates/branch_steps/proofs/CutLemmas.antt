@@ -35,7 +35,7 @@ use Rattle.branch_shapes.specs.FloorItems.{NamesLevels}
 use Rattle.branch_shapes.proofs.FloorItemLemmas.{has_height}
 use Rattle.public_tree.specs.PublicPruning.{CutsAs, ReadsAsTop}
 use Rattle.branch_steps.specs.CutReadings.{CutsAreRead, IsAtCut}
-use Rattle.branch_steps.specs.RestBodies.{IsRestBody, items_left, quiet_segment, rest_continuation}
+use Rattle.branch_steps.specs.RestBodies.{IsRestBody, items_behind, quiet_segment, rest_continuation}
 use Rattle.branch_steps.proofs.PlainItemLemmas.{high, bound, above, left, stack_is, node}
 use Rattle.branch_steps.proofs.RestReadingLemmas.{bound_there, items_settled, rest_bodies_read}
 
@@ -68,7 +68,7 @@ module _ (clauses : List Clause) (levels : List Level) (s : Substitution) (f : C
   record CutsFirst (items : List BranchItem) : Type 0 where
     pub goal : Term
     pub height : ℕ
-    pub first : without_marks (high levels s items) ≡ GoalItem goal height ∷ high levels s (items_left items)
+    pub first : without_marks (high levels s items) ≡ GoalItem goal height ∷ high levels s (items_behind items)
     pub outcome : outcome_of clauses goal f.next ≡ Controls CutToScope
 
   cut_first : (items : List BranchItem) → list_all (is_item_settled next) items ≡ true
@@ -87,7 +87,7 @@ module _ (clauses : List Clause) (levels : List Level) (s : Substitution) (f : C
   cut_first (Remove id ∷ items) settled gate = absurd cc
   cut_first (End ball ∷ items) settled gate = absurd cc
 
-module _ (job : Job) (n : ℕ) (body : Body) (t : TreeState) (s : Spot) (way : Branching) (h : IsAtCut job n t s way) (rb : IsRestBody (items_left (items_on way)) (next_number (segments_on way)) body) where
+module _ (job : Job) (n : ℕ) (body : Body) (t : TreeState) (s : Spot) (way : Branching) (h : IsAtCut job n t s way) (rb : IsRestBody (items_behind (items_on way)) (next_number (segments_on way)) body) where
   abbrev levels : List Level
   levels = levels_of s
 

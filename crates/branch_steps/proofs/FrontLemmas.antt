@@ -38,11 +38,11 @@ use Rattle.branch_shapes.specs.FloorItems.{NamesLevels}
 use Rattle.branch_shapes.proofs.FloorItemLemmas.{has_height}
 use Rattle.public_tree.specs.Answering.{ReadsAsLeft, taken_as}
 use Rattle.branch_steps.specs.FrontReadings.{FrontsAreRead, HoldsAtFront, OnceLeaves, behind_first}
-use Rattle.branch_steps.specs.RestBodies.{IsRestBody, items_left, quiet_segment, rest_continuation}
+use Rattle.branch_steps.specs.RestBodies.{IsRestBody, items_behind, quiet_segment, rest_continuation}
 use Rattle.branch_steps.proofs.PlainItemLemmas.{above, behind, bound, left, node, stack_is}
 use Rattle.branch_steps.proofs.RestReadingLemmas.{items_settled}
 
-module _ (job : Job) (body : Body) (t : TreeState) (s : Spot) (way : Branching) (h : HoldsAtFront job t s way) (rb : IsRestBody (items_left (items_on way)) (next_number (segments_on way)) body) where
+module _ (job : Job) (body : Body) (t : TreeState) (s : Spot) (way : Branching) (h : HoldsAtFront job t s way) (rb : IsRestBody (items_behind (items_on way)) (next_number (segments_on way)) body) where
   abbrev levels : List Level
   levels = levels_of s
 

@@ -35,7 +35,7 @@ use Rattle.branch_shapes.specs.FloorItems.{NamesLevels}
 use Rattle.branch_shapes.proofs.FloorItemLemmas.{has_height}
 use Rattle.public_tree.specs.PublicPruning.{CutsAs, ReadsAsTop}
 use Rattle.branch_steps.specs.CutReadings.{IsPlainOn}
-use Rattle.branch_steps.specs.RestBodies.{IsRestBody, items_left, quiet_segment, rest_continuation}
+use Rattle.branch_steps.specs.RestBodies.{IsRestBody, items_behind, quiet_segment, rest_continuation}
 use Rattle.branch_steps.proofs.PlainReadingLemmas.{bound_continuation, plain_reading}
 use Rattle.branch_steps.proofs.RestReadingLemmas.{bound_there, items_settled, rest_bodies_read}
 
@@ -68,7 +68,7 @@ module _ (levels : List Level) (s : Substitution) where
   round (End ball ∷ items) on = round items on
 
   -- behind the first item are the others, and they name nodes of the branch
-  pub behind : (next : ℕ) (items : List BranchItem) → list_all (is_item_settled next) items ≡ true → drop 1 (without_marks (high items)) ≡ high (items_left items)
+  pub behind : (next : ℕ) (items : List BranchItem) → list_all (is_item_settled next) items ≡ true → drop 1 (without_marks (high items)) ≡ high (items_behind items)
   behind next [] settled = refl
   behind next (Goal term cut ∷ items) settled = refl
   behind next (CatchEnd scope ∷ items) settled = behind next items settled
@@ -76,7 +76,7 @@ module _ (levels : List Level) (s : Substitution) where
   behind next (Remove id ∷ items) settled = refl
   behind next (End ball ∷ items) settled = absurd cc
 
-pub names_left : (levels : List Level) (items : List BranchItem) → Each (NamesLevels levels) (items_meant items) → Each (NamesLevels levels) (items_meant (items_left items))
+pub names_left : (levels : List Level) (items : List BranchItem) → Each (NamesLevels levels) (items_meant items) → Each (NamesLevels levels) (items_meant (items_behind items))
 names_left levels [] on = on
 names_left levels (Goal term cut ∷ items) on = on.1
 names_left levels (CatchEnd scope ∷ items) on = names_left levels items on.1
@@ -84,7 +84,7 @@ names_left levels (Collect template scope ∷ items) on = on.1
 names_left levels (Remove id ∷ items) on = on.1
 names_left levels (End ball ∷ items) on = on
 
-module _ (job : Job) (body : Body) (s : Spot) (way : Branching) (h : IsPlainOn job s way) (rb : IsRestBody (items_left (items_on way)) (next_number (segments_on way)) body) where
+module _ (job : Job) (body : Body) (s : Spot) (way : Branching) (h : IsPlainOn job s way) (rb : IsRestBody (items_behind (items_on way)) (next_number (segments_on way)) body) where
   abbrev pub levels : List Level
   levels = levels_of s
 
@@ -104,10 +104,10 @@ module _ (job : Job) (body : Body) (s : Spot) (way : Branching) (h : IsPlainOn j
   stack_is = ap (λ e. with_heights levels e ∷ floor_of levels) entry_is
 
   abbrev pub left : Continuation ℕ
-  left = with_items (high levels bound (items_left (items_on way))) above
+  left = with_items (high levels bound (items_behind (items_on way))) above
 
   abbrev made : Body
-  made = record { segment = quiet_segment (next_number (segments_on way)); branches = record { goals = items_left (items_on way); segment = quiet_segment (next_number (segments_on way)) } ∷ []; kind = ChoiceBody }
+  made = record { segment = quiet_segment (next_number (segments_on way)); branches = record { goals = items_behind (items_on way); segment = quiet_segment (next_number (segments_on way)) } ∷ []; kind = ChoiceBody }
 
   body_is : body ≡ made
   body_is = ap₂ (λ sg bs. (let b : Body = record { segment = sg; branches = bs; kind = body.kind } in b)) rb.segment rb.branches ∙ ap (λ k. record made { kind = k }) rb.kind
@@ -115,7 +115,7 @@ module _ (job : Job) (body : Body) (s : Spot) (way : Branching) (h : IsPlainOn j
   reads : reading job ((body, 0) ∷ way) ≡ with_nodes (node_of levels) (PlainEntry left)
   reads =
       rest_bodies_read job way bound body h.settled (bound_there way h.settled) rb
-      ∙ ap (λ is. PlainEntry (with_items is here)) (sym (round levels bound (items_left (items_on way)) (names_left levels (items_on way) h.scoped)))
+      ∙ ap (λ is. PlainEntry (with_items is here)) (sym (round levels bound (items_behind (items_on way)) (names_left levels (items_on way) h.scoped)))
 
   pub node : (m : ℕ) → new_node (reading job) way m body ≡ single m (with_nodes (node_of levels) (PlainEntry left))
   node m = ap (new_node (reading job) way m) body_is ∙ ap (single m) (ap (λ b. reading job ((b, 0) ∷ way)) (sym body_is) ∙ reads)

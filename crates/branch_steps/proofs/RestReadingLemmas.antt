@@ -19,7 +19,7 @@ use Rattle.branch_reading.specs.SettledWays.{are_bound_once, are_segments_settle
 use Rattle.branch_shapes.specs.ExtendedWays.{WayBinds, LeadsOn, BranchLeadsOn}
 use Rattle.branch_shapes.proofs.ExtendedWayLemmas.{branches_read_bound}
 use Rattle.branch_shapes.proofs.SettledSegmentLemmas.{settled_segments_bind, empty_segments_lead}
-use Rattle.branch_steps.specs.RestBodies.{IsRestBody, RestBodiesRead, items_left, quiet_segment, rest_continuation}
+use Rattle.branch_steps.specs.RestBodies.{IsRestBody, RestBodiesRead, items_behind, quiet_segment, rest_continuation}
 
 -- what is settled of a branch
 pub segments_settled : (way : Branching) → is_way_settled way ≡ true → are_segments_settled (segments_on way) ≡ true
@@ -33,7 +33,7 @@ items_settled ((b, i) ∷ up) h =
     and-left (list_all (is_item_settled (next_number (segments_on whole))) (items_on whole)) _
     (and-right (are_segments_settled (segments_on whole)) (is_branch_settled (next_number (segments_on whole)) b.kind i (items_on whole)) h)
 
-left_settled : (next : ℕ) (items : List BranchItem) → list_all (is_item_settled next) items ≡ true → list_all (is_item_settled next) (items_left items) ≡ true
+left_settled : (next : ℕ) (items : List BranchItem) → list_all (is_item_settled next) items ≡ true → list_all (is_item_settled next) (items_behind items) ≡ true
 left_settled next [] h = refl
 left_settled next (Goal term cut ∷ items) h = and-right (is_item_settled next (Goal term cut)) (list_all (is_item_settled next) items) h
 left_settled next (CatchEnd scope ∷ items) h = left_settled next items h
@@ -61,7 +61,7 @@ module _ (job : Job) (way : Branching) (s : Substitution) (settled : is_way_sett
   next = next_number (segments_on way)
 
   abbrev branch : Branch
-  branch = record { goals = items_left (items_on way); segment = quiet_segment next }
+  branch = record { goals = items_behind (items_on way); segment = quiet_segment next }
 
   abbrev made : Body
   made = record { segment = quiet_segment next; branches = branch ∷ []; kind = ChoiceBody }
@@ -78,8 +78,8 @@ module _ (job : Job) (way : Branching) (s : Substitution) (settled : is_way_sett
   leads : BranchLeadsOn s s s next made 0 branch
   leads = record { is = refl; no_query = tt; shared = lead; own = subst (λ n. LeadsOn s s n (quiet_segment next)) (sym number) lead }
 
-  below : is_branch_settled (next + 0) ChoiceBody 0 (items_left (items_on way)) ≡ true
-  below = subst (λ n. is_branch_settled n ChoiceBody 0 (items_left (items_on way)) ≡ true) (sym number) (and_true _ (left_settled next (items_on way) (items_settled way settled)))
+  below : is_branch_settled (next + 0) ChoiceBody 0 (items_behind (items_on way)) ≡ true
+  below = subst (λ n. is_branch_settled n ChoiceBody 0 (items_behind (items_on way)) ≡ true) (sym number) (and_true _ (left_settled next (items_on way) (items_settled way settled)))
 
   made_reads : reading job ((made, 0) ∷ way) ≡ PlainEntry (resolve_continuation s (rest_continuation job way))
   made_reads =
@@ -88,6 +88,6 @@ module _ (job : Job) (way : Branching) (s : Substitution) (settled : is_way_sett
 
 pub rest_bodies_read : RestBodiesRead
 rest_bodies_read job way s body settled same h =
-    let made : Body = record { segment = quiet_segment (next_number (segments_on way)); branches = record { goals = items_left (items_on way); segment = quiet_segment (next_number (segments_on way)) } ∷ []; kind = ChoiceBody } in
+    let made : Body = record { segment = quiet_segment (next_number (segments_on way)); branches = record { goals = items_behind (items_on way); segment = quiet_segment (next_number (segments_on way)) } ∷ []; kind = ChoiceBody } in
     let is : body ≡ made = ap₂ (λ sg bs. (let b : Body = record { segment = sg; branches = bs; kind = body.kind } in b)) h.segment h.branches ∙ ap (λ k. record made { kind = k }) h.kind in
     ap (λ b. reading job ((b, 0) ∷ way)) is ∙ made_reads job way s settled same

@@ -16,7 +16,7 @@ use Rattle.branch_reading.specs.Readings.{items_meant, reading}
 use Rattle.branch_reading.specs.SettledWays.{is_way_settled, items_on}
 use Rattle.branch_shapes.specs.FloorItems.{NamesLevels}
 use Rattle.public_tree.specs.PublicPruning.{CutsAs}
-use Rattle.branch_steps.specs.RestBodies.{IsRestBody, items_left}
+use Rattle.branch_steps.specs.RestBodies.{IsRestBody, items_behind}
 
 -- a plain alternative reads as its branch, which is settled, and whose items name nodes of it, as in the tree of every legal history
 pub record IsPlainOn (job : Job) (s : Spot) (way : Branching) : Type 0 where
@@ -34,6 +34,6 @@ pub record IsAtCut (job : Job) (n : ℕ) (t : TreeState) (s : Spot) (way : Branc
 abbrev pub CutsAreRead : Type 0
 CutsAreRead = (job : Job) (rows : Rows) (n : ℕ) (body : Body) (w : ℕ) (a : Place) (t : TreeState)
     → ((s : Spot) (way : Branching) → taken_at w a t ≡ Some s → IsWayTo rows (levels_of s) way
-    → IsAtCut job n t s way × IsRestBody (items_left (items_on way)) (next_number (segments_on way)) body)
+    → IsAtCut job n t s way × IsRestBody (items_behind (items_on way)) (next_number (segments_on way)) body)
     → ((s : Spot) → taken_at w a t ≡ Some s → (way : Branching) × IsWayTo rows (levels_of s) way)
     → CutsAs rows n body w a (reading job) t

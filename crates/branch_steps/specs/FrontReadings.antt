@@ -21,7 +21,7 @@ use Rattle.branch_reading.specs.Readings.{reading}
 use Rattle.branch_reading.specs.SettledWays.{items_on}
 use Rattle.public_tree.specs.Answering.{GoesOnAs, taken_as}
 use Rattle.branch_steps.specs.CutReadings.{IsPlainOn}
-use Rattle.branch_steps.specs.RestBodies.{IsRestBody, items_left}
+use Rattle.branch_steps.specs.RestBodies.{IsRestBody, items_behind}
 
 -- what follows the first item past the ends of catches
 abbrev pub behind_first : Continuation ℕ → Continuation ℕ
@@ -41,6 +41,6 @@ OnceLeaves = (f : Continuation ℕ) (es : List Entry) → reply_taken holds_once
 abbrev pub FrontsAreRead : Type 0
 FrontsAreRead = (job : Job) (rows : Rows) (body : Body) (w : ℕ) (a : Place) (t : TreeState)
     → ((s : Spot) (way : Branching) → taken_at w a t ≡ Some s → IsWayTo rows (levels_of s) way
-    → HoldsAtFront job t s way × IsRestBody (items_left (items_on way)) (next_number (segments_on way)) body)
+    → HoldsAtFront job t s way × IsRestBody (items_behind (items_on way)) (next_number (segments_on way)) body)
     → ((s : Spot) → taken_at w a t ≡ Some s → (way : Branching) × IsWayTo rows (levels_of s) way)
     → GoesOnAs rows body w a (reading job) t

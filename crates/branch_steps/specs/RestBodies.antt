@@ -22,13 +22,13 @@ is_mark_item (Remove id) = false
 is_mark_item (End ball) = false
 
 -- the items behind the first one that is none
-abbrev pub items_left : List BranchItem → List BranchItem
-items_left [] = []
-items_left (Goal term cut ∷ items) = items
-items_left (CatchEnd scope ∷ items) = items_left items
-items_left (Collect template scope ∷ items) = items
-items_left (Remove id ∷ items) = items
-items_left (End ball ∷ items) = items
+abbrev pub items_behind : List BranchItem → List BranchItem
+items_behind [] = []
+items_behind (Goal term cut ∷ items) = items
+items_behind (CatchEnd scope ∷ items) = items_behind items
+items_behind (Collect template scope ∷ items) = items
+items_behind (Remove id ∷ items) = items
+items_behind (End ball ∷ items) = items
 
 -- nothing is taken or bound from a number on
 abbrev pub quiet_segment : ℕ → Segment
@@ -43,12 +43,12 @@ pub record IsRestBody (items : List BranchItem) (next : ℕ) (body : Body) : Typ
 -- what is left to do behind the first goal of a branch, its bindings not applied
 abbrev pub rest_continuation : Job → Branching → Continuation ℕ
 rest_continuation job way = record {
-  items = items_meant (items_left (items_on way));
+  items = items_meant (items_behind (items_on way));
   named = named_of (query_on job way);
   next = next_number (segments_on way);
 }
 
 abbrev pub RestBodiesRead : Type 0
 RestBodiesRead = (job : Job) (way : Branching) (s : Substitution) (body : Body) → is_way_settled way ≡ true → SameValues (bound_by (segments_on way)) (Some s)
-    → IsRestBody (items_left (items_on way)) (next_number (segments_on way)) body
+    → IsRestBody (items_behind (items_on way)) (next_number (segments_on way)) body
     → reading job ((body, 0) ∷ way) ≡ PlainEntry (resolve_continuation s (rest_continuation job way))

@@ -3,7 +3,7 @@ ghost use Rattle.std.specs.Prelude.{◌≡◌, IfOk};
 ghost use Rattle.std.specs.Arc.{arc_value};
 ghost use Rattle.tree_closing.specs.Closings.{IsSingle};
 ghost use Rattle.tree_nodes.specs.Bodies.{IsWhole, body_view};
-ghost use Rattle.branch_steps.specs.RestBodies.{IsRestBody, is_mark_item, items_left};
+ghost use Rattle.branch_steps.specs.RestBodies.{IsRestBody, is_mark_item, items_behind};
 
 use au_term::{Bindings, NoMemory, Segment, VarNo};
 use clause_compile::{Branch, Goals, Item};
@@ -15,7 +15,7 @@ use tree_nodes::NodeBody;
 /// The body of a node with what goals leave behind the first one, past the ends of catches in front of it; no variable is taken
 /// from the next number on, and none bound. It takes as many steps as ends of catches are in front.
 pub fn rest_body(alloc: Global, goals: &Goals, next: VarNo) -> Result<Arc<NodeBody>, NoMemory>
-    ensures rest { IfOk result (λ body. IsRestBody (items_left goals.now) next (body_view (arc_value body))) }
+    ensures rest { IfOk result (λ body. IsRestBody (items_behind goals.now) next (body_view (arc_value body))) }
     ensures single { IfOk result (λ body. IsSingle (body_view (arc_value body))) }
     ensures whole { IfOk result (λ body. IsWhole (body_view (arc_value body))) }
 {
@@ -30,7 +30,7 @@ pub fn rest_body(alloc: Global, goals: &Goals, next: VarNo) -> Result<Arc<NodeBo
 
 /// The goals behind the first one that is no end of a catch; none where there is none.
 fn goals_left(goals: &Goals) -> Result<Goals, NoMemory>
-    ensures { IfOk result (λ left. left ≡ items_left goals.now) }
+    ensures { IfOk result (λ left. left ≡ items_behind goals.now) }
 {
     let mut left = goals.share()?;
     loop {
