@@ -1,0 +1,6 @@
+pub mod RestLemmas
+pub mod PlainReadingLemmas
+pub mod RestReadingLemmas
+pub mod PlainItemLemmas
+pub mod CutLemmas
+pub mod FrontLemmas

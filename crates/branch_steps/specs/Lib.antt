@@ -1,0 +1,3 @@
+pub mod RestBodies
+pub mod CutReadings
+pub mod FrontReadings
