@@ -16,12 +16,12 @@ use Rattle.branch_shapes.specs.FloorItems.{NamesLevels, items_over_floor, FloorI
 use Rattle.branch_shapes.proofs.ChoiceScopeLemmas.{low_height, low_scope}
 
 -- a node of some levels has a height over nothing
-record HasHeight (levels : List Level) (s : ℕ) : Type 0 where
-  low : height_of levels s ≤ length levels
-  some : 1 ≤ height_of levels s
-  back : node_of levels (height_of levels s) ≡ s
+pub record HasHeight (levels : List Level) (s : ℕ) : Type 0 where
+  pub low : height_of levels s ≤ length levels
+  pub some : 1 ≤ height_of levels s
+  pub back : node_of levels (height_of levels s) ≡ s
 
-has_height : (levels : List Level) (s : ℕ) → is_on (way_of levels) s ≡ true → HasHeight levels s
+pub has_height : (levels : List Level) (s : ℕ) → is_on (way_of levels) s ≡ true → HasHeight levels s
 has_height [] s h = absurd cc
 has_height (v ∷ up) s h = by_test (has_height up s) (v.number == s) refl h
   where

@@ -2,6 +2,7 @@
 ghost use Rattle.std.specs.Prelude.{◌≡◌, ◌<◌, ◌≤◌, ◌∷◌, IfOk, OnOk, OnErr, MatchOption, IsTrue, ◌↔◌, List, [], length};
 ghost use Rattle.std.specs.Arc.{arc_value};
 ghost use Rattle.au_term.specs.Term.{var_bound};
+ghost use Rattle.cell_store.specs.ListGoals.{list_goal};
 ghost use Rattle.cell_store.specs.StoreView.{AddsText, BindsFurther, CanBeBound, IsValueIn, meaning, text_in, value_term, with_numbers};
 ghost use Rattle.run_model.specs.Programs.Clauses.{is_defined};
 ghost use Rattle.clause_compile.specs.AtomNumbers.{name_at};
@@ -136,7 +137,7 @@ impl Region {
         if position.frame == 0 {
             return Left::Nothing;
         }
-        let frame = self.frames[position.frame as usize - 1];
+        let frame = &self.frames[position.frame as usize - 1];
         match frame.body {
             FrameBody::Text(base) => match self.text.get(position.at) {
                 Some(BodyItem::Goal(place)) => {
@@ -175,6 +176,22 @@ impl Region {
             self.frames.push(frame)?;
         }
         Ok(number)
+    }
+
+    /// Makes a frame of a body of the text, with a number added to its variables, and gives the frame's number.
+    #[inline(never)]
+    pub(crate) fn push_body(
+        &mut self,
+        base: u32,
+        cut: u32,
+        after: Position,
+    ) -> Result<u32, NoMemory>
+        requires { after.frame ≤ length self.old.frames }
+        ensures ok { IfOk result (AddsFrame self.old self.new (record { body = FrameBody.Text base; cut = cut; after = after })) }
+        ensures err { OnErr result (self.new ≡ self.old) }
+    {
+        let body = FrameBody::Text(base);
+        self.push_frame(Frame { body, cut, after })
     }
 
     /// Puts an item with its scope before what follows at a position, and gives the position at which it is left.
@@ -322,14 +339,9 @@ impl Region {
     }
 
     /// Adds a copy of a term to the results of the findall over so many choice points.
-    pub fn add_result(
-        &mut self,
-        alloc: Global,
-        over: usize,
-        term: &FlatTerm,
-    ) -> Result<(), NoMemory>
+    pub fn add_result(&mut self, alloc: Global, over: usize, term: FlatTerm) -> Result<(), NoMemory>
         requires { HasFindallAt self.old over }
-        ensures ok { OnOk result (AddsResult self.old self.new over term.now) }
+        ensures ok { OnOk result (AddsResult self.old self.new over term) }
         ensures err { OnErr result (self.new ≡ self.old) }
     {
         self.choices[over].alternatives.add_result(alloc, term)
@@ -366,6 +378,22 @@ impl Region {
         ensures keeps { KeepsPositions self.old self.new (length self.old.frames) }
     {
         self.store.copy_in(term)
+    }
+
+    /// The value of the goal that unifies a term with the list of others, whose variables are there: it is put behind the text.
+    pub fn list_goal(
+        &mut self,
+        term: &FlatTerm,
+        items: &[FlatTerm],
+    ) -> Result<BindingCell, NoMemory>
+        requires { var_bound (list_goal term.now items.now) ≤ self.old.store.now.next }
+        ensures there { IfOk result (IsValueIn self.new.store) }
+        ensures term { IfOk result (λ value. value_term self.new.store value ≡ list_goal term.now items.now) }
+        ensures text { AddsText self.old.store self.new.store }
+        ensures stays { StaysStanding self.old self.new }
+        ensures keeps { KeepsPositions self.old self.new (length self.old.frames) }
+    {
+        self.store.list_goal(term, items)
     }
 
     /// Makes two values one by further bindings, or answers that none do. Where none do, or out of memory, some bindings may
