@@ -1,0 +1,12 @@
+pub mod TableLemmas
+pub mod ScopeLemmas
+pub mod MadeLemmas
+pub mod LiveLemmas
+pub mod GoalLemmas
+pub mod BranchMeaningLemmas
+pub mod RunLemmas
+pub mod BodyMeaningLemmas
+pub mod ChainLemmas
+pub mod WholeLemmas
+pub mod AllLemmas
+pub mod FinalLemmas

@@ -1,0 +1,5 @@
+pub mod KeptScopes
+pub mod BranchGoals
+pub mod LiveChoices
+pub mod MadeBodies
+pub mod PublishedRuns

@@ -1,0 +1,2 @@
+pub mod LoadableLemmas
+pub mod FloorLemmas
