@@ -20,9 +20,12 @@ use Rattle.branch_publishing.specs.PublishedRuns.{published_group}
 use Rattle.branch_publishing.proofs.BranchMeaningLemmas.{GoalsAre}
 use Rattle.branch_publishing.proofs.ChainLemmas.{CanBeBody, bodies_show}
 
-module _ (p : Placement) (deferred : List BranchItem) (base : ℕ) (lists : ItemLists) (goals : List (List BranchItem)) (g : GoalsAre p deferred base lists goals)
-    (branch : Branch) (from : ℕ) (e : Entry) (newest : BoundThen) (top : (kind : BodyKind) → GoalsMean p newest.bound newest.next kind 0 branch e) (there : from ≡ newest.next) where
-  alone_shows : (start : BoundThen) (b : Body) → IsStart base start → start ≡ newest → IsAloneBody from branch b → AllShow (BranchMeans p) e start.next start.bound (b ∷ []) ([] ∷ [])
+module _ (p : Placement) (deferred : List BranchItem) (base : ℕ) (lists : ItemLists) (goals : List (List BranchItem))
+    (g : GoalsAre p deferred base lists goals)
+    (branch : Branch) (from : ℕ) (e : Entry) (newest : BoundThen) (top : (kind : BodyKind) → GoalsMean p newest.bound newest.next kind 0 branch e)
+        (there : from ≡ newest.next) where
+  alone_shows : (start : BoundThen) (b : Body) → IsStart base start → start ≡ newest → IsAloneBody from branch b
+      → AllShow (BranchMeans p) e start.next start.bound (b ∷ []) ([] ∷ [])
   alone_shows start b s r i =
       let same : from ≡ start.next = there ∙ ap (λ (t : BoundThen). t.next) (sym r) in
       let end : number_after b.segment ≡ newest.next = ap number_after i.segment ∙ (omega (arith, there)) in (
@@ -34,19 +37,23 @@ module _ (p : Placement) (deferred : List BranchItem) (base : ℕ) (lists : Item
             first = branch;
             others = [];
             branches = i.branches;
-            leads = subst (λ x. LeadsOn start.bound start.bound start.next x) (sym i.segment) (record { numbers = omega (arith, same); extends = nothing_extends start.bound (from + 0) s.applied });
+            leads = subst (λ x. LeadsOn start.bound start.bound start.next x) (sym i.segment)
+                (record { numbers = omega (arith, same); extends = nothing_extends start.bound (from + 0) s.applied });
             further = tt;
           }),
           record {
             branch = branch;
             is = ap (λ (xs : List Branch). slice_get xs 0) i.branches;
-            goals = subst (λ n. GoalsMean p start.bound n b.kind 0 branch e) (sym end) (subst (λ (t : BoundThen). GoalsMean p t.bound newest.next b.kind 0 branch e) (sym r) (top b.kind));
+            goals = subst (λ n. GoalsMean p start.bound n b.kind 0 branch e) (sym end)
+                (subst (λ (t : BoundThen). GoalsMean p t.bound newest.next b.kind 0 branch e) (sym r) (top b.kind));
           },
         ),
       )
 
-  pub all_show : (start : BoundThen) (choices : List LiveChoice) (ms : List MeantChoice) (bodies : List Body) → IsStart base start → EndIn goals branch from choices bodies
-      → MeanLive lists start choices ms newest → Each (CanBeBody p) ms → AllShow (BranchMeans p) e start.next start.bound bodies (or_alone (map (published_group p deferred) ms))
+  pub all_show : (start : BoundThen) (choices : List LiveChoice) (ms : List MeantChoice) (bodies : List Body) → IsStart base start
+      → EndIn goals branch from choices bodies
+      → MeanLive lists start choices ms newest → Each (CanBeBody p) ms → AllShow (BranchMeans p) e start.next start.bound bodies
+          (or_alone (map (published_group p deferred) ms))
   all_show start [] [] [] s i r can = elim i [ ]
   all_show start [] [] (b ∷ []) s i r can = alone_shows start b s r i
   all_show start [] [] (b ∷ (d ∷ bodies)) s i r can = elim i [ ]
@@ -55,4 +62,6 @@ module _ (p : Placement) (deferred : List BranchItem) (base : ℕ) (lists : Item
   all_show start (c ∷ []) (m ∷ ms) [] s i r can = elim i [ ]
   all_show start (c ∷ (f ∷ choices)) (m ∷ ms) [] s i r can = elim i [ ]
   all_show start (c ∷ choices) (m ∷ ms) (b ∷ bodies) s i r can =
-      bodies_show p deferred base lists goals g branch from e newest top start c choices m ms b bodies (let n = s.number in omega (arith, n)) s.older i r.0 r.1 can.0 can.1
+      bodies_show p deferred base lists goals g branch from e newest top start c choices m ms b bodies (let n = s.number in omega (arith, n)) s.older
+          i
+          r.0 r.1 can.0 can.1

@@ -49,15 +49,18 @@ module _ (lists : ItemLists) (under : BoundThen) (c : LiveChoice) (m : MeantChoi
     extends = subst (λ n. ExtendsBy under.bound m.came.bound n (captured_bindings c.lead.bindings)) (sym segment_end) k.lead.extends;
   }
 
-pub body_means : (p : Placement) (deferred : List BranchItem) (base : ℕ) (lists : ItemLists) (goals : List (List BranchItem)) → GoalsAre p deferred base lists goals
-    → (under : BoundThen) (c : LiveChoice) (m : MeantChoice) (first : Branch) (b : Body) → base ≤ under.next → IsBodyOf goals c first b → MeansLive lists under c m
+pub body_means : (p : Placement) (deferred : List BranchItem) (base : ℕ) (lists : ItemLists) (goals : List (List BranchItem))
+    → GoalsAre p deferred base lists goals
+    → (under : BoundThen) (c : LiveChoice) (m : MeantChoice) (first : Branch) (b : Body) → base ≤ under.next → IsBodyOf goals c first b
+        → MeansLive lists under c m
     → Each (CanBeBranch p m.kind) m.alternatives → BodyMeans p under.next under.bound m.came.bound b (published_group p deferred m)
 body_means p deferred base lists goals g under c m first b le i k can =
     let is : b.kind ≡ kind_meant m.kind = i.kind ∙ ap kind_meant k.kind in
     let end : number_after b.segment ≡ m.came.next = ap number_after i.segment ∙ segment_end lists under c m k in
     record {
       no_query = subst IsNoQuery (sym is) (no_query m.kind);
-      guard = λ e. many_mapped (published_entry p deferred m.kind) m.alternatives ∙ guard_alone m.kind (length m.alternatives) k.alone (ap guards_kind (sym is) ∙ e);
+      guard = λ e. many_mapped (published_entry p deferred m.kind) m.alternatives ∙ guard_alone m.kind (length m.alternatives) k.alone
+          (ap guards_kind (sym is) ∙ e);
       first = first;
       others = i.made.others;
       branches = i.made.are;
@@ -65,5 +68,6 @@ body_means p deferred base lists goals g under c m first b le i k can =
       further = subst (λ n. AlternativesMean p m.came.bound n b.kind 1 i.made.others (published_group p deferred m)) (sym end)
           (subst (λ x. AlternativesMean p m.came.bound m.came.next x 1 i.made.others (published_group p deferred m)) (sym is)
           (further_mean p deferred base lists goals g m.came.bound m.came.next k.cut m.kind c.alternatives.items m.alternatives i.made.others
-          (let o = k.lead.more in omega (arith, le, o)) k.alone (subst (λ n. AreBranchesOf goals n c.alternatives.items i.made.others) k.next i.made.each) k.alternatives can));
+          (let o = k.lead.more in omega (arith, le, o)) k.alone (subst (λ n. AreBranchesOf goals n c.alternatives.items i.made.others) k.next
+              i.made.each) k.alternatives can));
     }

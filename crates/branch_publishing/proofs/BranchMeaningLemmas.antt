@@ -35,15 +35,21 @@ pub record GoalsAre (p : Placement) (deferred : List BranchItem) (base : ℕ) (l
   pub many : length goals ≡ length lists
   pub are : AreGoalsOf lists scope deferred goals
 
-module _ (p : Placement) (deferred : List BranchItem) (base : ℕ) (lists : ItemLists) (goals : List (List BranchItem)) (g : GoalsAre p deferred base lists goals) where
-  own_goals : (n : ℕ) (a : CapturedAlternative) (b : Branch) (xs : List (Item ℕ)) → IsBranchOf goals n a b → slice_get lists a.first ≡ Some xs → b.goals ≡ branch_goals g.scope deferred xs
-  own_goals n a b xs i h = i.own (branch_goals g.scope deferred xs) (g.are.each a.first xs (let w = slice_get_within lists a.first xs h in let m = g.many in omega (arith, w, m)) h)
+module _ (p : Placement) (deferred : List BranchItem) (base : ℕ) (lists : ItemLists) (goals : List (List BranchItem))
+    (g : GoalsAre p deferred base lists goals) where
+  own_goals : (n : ℕ) (a : CapturedAlternative) (b : Branch) (xs : List (Item ℕ)) → IsBranchOf goals n a b → slice_get lists a.first ≡ Some xs
+      → b.goals ≡ branch_goals g.scope deferred xs
+  own_goals n a b xs i h = i.own (branch_goals g.scope deferred xs) (g.are.each a.first xs
+      (let w = slice_get_within lists a.first xs h in let m = g.many in omega (arith, w, m)) h)
 
-  pub branch_means : (before : Substitution) (n cut : ℕ) (a : CapturedAlternative) (m : MeantAlternative) (b : Branch) (kind : BodyKind) (i : ℕ) (own : CapturedKind) (e : Entry)
-      → base ≤ n → IsBranchOf goals n a b → MeansAlternative lists before n cut a m → CanBeBranch p own m → cond (i == 1) (is_guard_settled m.next kind) true ≡ true
+  pub branch_means : (before : Substitution) (n cut : ℕ) (a : CapturedAlternative) (m : MeantAlternative) (b : Branch) (kind : BodyKind) (i : ℕ)
+      (own : CapturedKind) (e : Entry)
+      → base ≤ n → IsBranchOf goals n a b → MeansAlternative lists before n cut a m → CanBeBranch p own m
+          → cond (i == 1) (is_guard_settled m.next kind) true ≡ true
       → e ≡ entry_beside kind i m.bound (published_continuation p deferred m) → GoalsMean p before n kind i b e
   branch_means before n cut a m b kind i own e from k h can guard is =
-      let end : number_after b.segment ≡ m.next = let f = k.from in let v = k.variables in let q = h.next in let o = h.more in omega (arith, f, v, q, o) in
+      let end : number_after b.segment ≡ m.next = let f = k.from in let v = k.variables in let q = h.next in let o = h.more in omega
+          (arith, f, v, q, o) in
       let last : number_after b.segment ≡ a.next = end ∙ h.next in
       let mine = own_goals n a b m.items k h.items in
       record {
@@ -54,7 +60,8 @@ module _ (p : Placement) (deferred : List BranchItem) (base : ℕ) (lists : Item
           extends = subst (λ x. ExtendsBy before m.bound x (captured_bindings b.segment.bindings)) (sym last)
               (subst (λ (bs : List Binding). ExtendsBy before m.bound a.next (captured_bindings bs)) (sym k.bindings) h.extends);
         };
-        below = and_both (list_all (is_item_settled (number_after b.segment)) b.goals) (cond (i == 1) (is_guard_settled (number_after b.segment) kind) true)
+        below = and_both (list_all (is_item_settled (number_after b.segment)) b.goals)
+            (cond (i == 1) (is_guard_settled (number_after b.segment) kind) true)
             (subst (λ x. list_all (is_item_settled x) b.goals ≡ true) (sym last)
             (subst (λ (xs : List BranchItem). list_all (is_item_settled a.next) xs ≡ true) (sym mine)
             (goals_settled p deferred base g.scope g.scoped g.names g.settled a.next cut m.items (let o = h.more in omega (arith, from, o)) h.over)))

@@ -46,39 +46,50 @@ each_live P (m ∷ ms) e = by_case m.alternatives (each_live P ms e.1)
     by_case [] h = h
     by_case (x ∷ xs) h = (e.0, h)
 
-live_later : (lists : ItemLists) (under end : BoundThen) (cs : List LiveChoice) (ms : List MeantChoice) → MeanLive lists under cs ms end → under.next ≤ end.next
+live_later : (lists : ItemLists) (under end : BoundThen) (cs : List LiveChoice) (ms : List MeantChoice) → MeanLive lists under cs ms end
+    → under.next ≤ end.next
 live_later lists under end [] [] k = let e = ap (λ (t : BoundThen). t.next) k in omega (arith, e)
 live_later lists under end [] (m ∷ ms) k = elim k [ ]
 live_later lists under end (c ∷ cs) [] k = elim k [ ]
 live_later lists under end (c ∷ cs) (m ∷ ms) k = let h = live_later lists m.came end cs ms k.1 in let o = k.0.lead.more in omega (arith, h, o)
 
 -- with what leads to it from the newest choice point that has alternatives
-goes_on_there : (lists : ItemLists) (start end : BoundThen) (cut : ℕ) (live : LiveChoices) (ms : List MeantChoice) (a : CapturedAlternative) (m : MeantAlternative) (l : LiveMean lists start live ms end)
+goes_on_there : (lists : ItemLists) (start end : BoundThen) (cut : ℕ) (live : LiveChoices) (ms : List MeantChoice) (a : CapturedAlternative)
+    (m : MeantAlternative) (l : LiveMean lists start live ms end)
     → MeansAlternative lists end.bound end.next cut a m
-    → MeansAlternative lists l.newest.bound l.newest.next cut (record { first = a.first; bindings = live.since.bindings ++ a.bindings; next = a.next }) m
+    → MeansAlternative lists l.newest.bound l.newest.next cut (record { first = a.first; bindings = live.since.bindings ++ a.bindings; next = a.next
+        })
+        m
 goes_on_there lists start end cut live ms a m l k = record {
   items = k.items;
-  extends = subst (λ xs. ExtendsBy l.newest.bound m.bound a.next xs) (sym (map-append (λ (b : Binding). (b.var, b.value)) live.since.bindings a.bindings))
-      (extensions_compose l.newest.bound end.bound m.bound end.next a.next (captured_bindings live.since.bindings) (captured_bindings a.bindings) l.older l.since.extends k.extends k.more);
+  extends = subst (λ xs. ExtendsBy l.newest.bound m.bound a.next xs) (sym (map-append (λ (b : Binding). (b.var, b.value)) live.since.bindings
+      a.bindings))
+      (extensions_compose l.newest.bound end.bound m.bound end.next a.next (captured_bindings live.since.bindings) (captured_bindings a.bindings)
+          l.older l.since.extends k.extends k.more);
   next = k.next;
   more = let o = l.since.more in let q = k.more in omega (arith, o, q);
   over = k.over;
 }
 
-pub run_means : (p : Placement) (deferred : List BranchItem) (base next : ℕ) (branch : List ℕ) (c : Captured) (start : BoundThen) (current : MeantAlternative) (choices : List MeantChoice)
+pub run_means : (p : Placement) (deferred : List BranchItem) (base next : ℕ) (branch : List ℕ) (c : Captured) (start : BoundThen)
+    (current : MeantAlternative) (choices : List MeantChoice)
     (oldest : List CapturedChoice) (scopes : List ℕ) (goals : List (List BranchItem)) (live : LiveChoices) (bodies : List Body)
     → oldest ≡ reverse c.choices.items → IsStart base start → IsDeferredAt p deferred base branch next → IsTakenOff p deferred start c current choices
-    → AreScopesOf branch oldest next scopes → length goals ≡ length c.items → AreGoalsOf c.items (scope_at scopes) deferred goals → AreLive base oldest live → MakeBodies goals live c.current bodies
+    → AreScopesOf branch oldest next scopes → length goals ≡ length c.items → AreGoalsOf c.items (scope_at scopes) deferred goals
+        → AreLive base oldest live → MakeBodies goals live c.current bodies
     → MeanRun p base start.bound bodies (published_entry p deferred Choice current)
 run_means p deferred base next branch c start current choices oldest scopes goals live bodies turned s d t a many are lives made =
     let lists : ItemLists = c.items in
     let end : BoundThen = bound_under start choices in
     let meant : ChoicesMean lists start (floor_in p) oldest (reverse choices) end
-    = subst (λ (xs : List CapturedChoice). ChoicesMean lists start (floor_in p) xs (reverse choices) end) (sym turned) (oldest_first lists start (floor_in p) c.choices.items choices t.captured) in
-    let groups : AreGroupsOf oldest p.groups = subst (λ gs. AreGroupsOf oldest gs) (sym t.groups) (groups_are p deferred lists start end (floor_in p) oldest (reverse choices) meant) in
+    = subst (λ (xs : List CapturedChoice). ChoicesMean lists start (floor_in p) xs (reverse choices) end) (sym turned)
+        (oldest_first lists start (floor_in p) c.choices.items choices t.captured) in
+    let groups : AreGroupsOf oldest p.groups = subst (λ gs. AreGroupsOf oldest gs) (sym t.groups)
+        (groups_are p deferred lists start end (floor_in p) oldest (reverse choices) meant) in
     let g : GoalsAre p deferred base lists goals = record {
       scope = scope_at scopes;
-      scoped = λ n. scope_is next p.levels p.groups scopes (a.kept p.levels p.groups d.nodes groups) n ∙ ap (λ x. choice_scope x p.levels p.groups n) (sym d.number);
+      scoped = λ n. scope_is next p.levels p.groups scopes (a.kept p.levels p.groups d.nodes groups) n
+          ∙ ap (λ x. choice_scope x p.levels p.groups n) (sym d.number);
       names = d.names;
       settled = d.settled;
       many = many;
@@ -88,14 +99,18 @@ run_means p deferred base next branch c start current choices oldest scopes goal
     let later = live_later lists start l.newest live.choices.items (live_meant (reverse choices)) l.choices in
     let own = goes_on_there lists start end (floor_in p + length choices) live (live_meant (reverse choices)) c.current current l t.goes_on in
     let e : Entry = published_entry p deferred Choice current in
-    let first = subst (λ n. IsBranchOf goals n (record { first = c.current.first; bindings = live.since.bindings ++ c.current.bindings; next = c.current.next }) made.branch) l.since.base made.is in
+    let first = subst (λ n. IsBranchOf goals n (record { first = c.current.first; bindings = live.since.bindings ++ c.current.bindings;
+        next = c.current.next }) made.branch) l.since.base made.is in
     let top : (kind : BodyKind) → GoalsMean p l.newest.bound l.newest.next kind 0 made.branch e
     = λ kind. branch_means p deferred base lists goals g l.newest.bound l.newest.next (floor_in p + length choices)
-    (record { first = c.current.first; bindings = live.since.bindings ++ c.current.bindings; next = c.current.next }) current made.branch kind 0 Choice e
+    (record { first = c.current.first; bindings = live.since.bindings ++ c.current.bindings; next = c.current.next }) current made.branch kind 0
+        Choice
+        e
     (let n = s.number in omega (arith, later, n)) first own t.on_top refl refl in
     let nodes : node_groups p.groups ≡ or_alone (map (published_group p deferred) (live_meant (reverse choices)))
     = ap (λ gs. node_groups gs) t.groups ∙ ap (λ gs. or_alone gs) (live_groups p deferred (reverse choices)) in
     let can = each_live (CanBeBody p) (reverse choices) (each_turned (CanBeBody p) choices t.each) in
     subst (λ gs. AllShow (BranchMeans p) e base start.bound bodies gs) (sym nodes)
     (subst (λ n. AllShow (BranchMeans p) e n start.bound bodies (or_alone (map (published_group p deferred) (live_meant (reverse choices))))) s.number
-    (all_show p deferred base lists goals g made.branch live.since.base e l.newest top l.since.base start live.choices.items (live_meant (reverse choices)) bodies s made.ends l.choices can))
+    (all_show p deferred base lists goals g made.branch live.since.base e l.newest top l.since.base start live.choices.items
+        (live_meant (reverse choices)) bodies s made.ends l.choices can))

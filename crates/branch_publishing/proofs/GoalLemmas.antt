@@ -44,8 +44,11 @@ drop_meant base zero [] s = refl
 drop_meant base zero (x ∷ xs) s = refl
 drop_meant base (suc k) [] s = refl
 drop_meant base (suc k) (Goal t c ∷ xs) s = drop_meant base k xs (and_right (is_item_settled base (Goal t c)) (list_all (is_item_settled base) xs) s)
-drop_meant base (suc k) (CatchEnd c ∷ xs) s = drop_meant base k xs (and_right (is_item_settled base (CatchEnd c)) (list_all (is_item_settled base) xs) s)
-drop_meant base (suc k) (Collect t c ∷ xs) s = drop_meant base k xs (and_right (is_item_settled base (Collect t c)) (list_all (is_item_settled base) xs) s)
+drop_meant base (suc k) (CatchEnd c ∷ xs) s = drop_meant base k xs (and_right (is_item_settled base (CatchEnd c)) (list_all (is_item_settled base) xs)
+    s)
+drop_meant base (suc k) (Collect t c ∷ xs) s = drop_meant base k xs (and_right (is_item_settled base (Collect t c))
+    (list_all (is_item_settled base) xs)
+    s)
 drop_meant base (suc k) (Remove n ∷ xs) s = drop_meant base k xs (and_right (is_item_settled base (Remove n)) (list_all (is_item_settled base) xs) s)
 drop_meant base (suc k) (End b ∷ xs) s = absurd cc
 
@@ -65,10 +68,12 @@ item_more base next (Collect t c) le s = below_more base next _ le s
 item_more base next (Remove n) le s = refl
 item_more base next (End b) le s = s
 
-settled_more : (base next : ℕ) (xs : List BranchItem) → base ≤ next → list_all (is_item_settled base) xs ≡ true → list_all (is_item_settled next) xs ≡ true
+settled_more : (base next : ℕ) (xs : List BranchItem) → base ≤ next → list_all (is_item_settled base) xs ≡ true
+    → list_all (is_item_settled next) xs ≡ true
 settled_more base next [] le s = refl
 settled_more base next (x ∷ xs) le s =
-    and_both (is_item_settled next x) (list_all (is_item_settled next) xs) (item_more base next x le (and_left (is_item_settled base x) (list_all (is_item_settled base) xs) s))
+    and_both (is_item_settled next x) (list_all (is_item_settled next) xs) (item_more base next x le
+        (and_left (is_item_settled base x) (list_all (is_item_settled base) xs) s))
     (settled_more base next xs le (and_right (is_item_settled base x) (list_all (is_item_settled base) xs) s))
 
 each_drop : {X : Type 0} (P : X → Type 0) (k : ℕ) (xs : List X) → Each P xs → Each P (drop k xs)
@@ -78,7 +83,9 @@ each_drop P (suc k) [] e = tt
 each_drop P (suc k) (x ∷ xs) e = each_drop P k xs e.1
 
 -- goals of an alternative
-module _ (p : Placement) (deferred : List BranchItem) (base : ℕ) (scope : ℕ → ℕ) (scoped : (n : ℕ) → scope n ≡ choice_scope p.number p.levels p.groups n) (names : Each (NamesLevels p.levels) (items_meant deferred)) (settled : list_all (is_item_settled base) deferred ≡ true) where
+module _ (p : Placement) (deferred : List BranchItem) (base : ℕ) (scope : ℕ → ℕ) (scoped : (n : ℕ)
+    → scope n ≡ choice_scope p.number p.levels p.groups n) (names : Each (NamesLevels p.levels) (items_meant deferred))
+        (settled : list_all (is_item_settled base) deferred ≡ true) where
   abbrev stay : StayOverFloor p.number p.levels p.groups (items_meant deferred)
   stay = floor_items_stay p.number p.levels p.groups (items_meant deferred) names
 
@@ -99,18 +106,24 @@ module _ (p : Placement) (deferred : List BranchItem) (base : ℕ) (scope : ℕ 
   goals_meant (CatchMark n ∷ xs) l = ap₂ (λ s (items : List (Item ℕ)). CatchMark s ∷ items) (scoped (suc n)) (goals_meant xs l)
   goals_meant (CollectMark t n ∷ xs) l = ap₂ (λ s (items : List (Item ℕ)). CollectMark t s ∷ items) (scoped (suc n)) (goals_meant xs l)
   goals_meant (RemovalItem k ∷ xs) l =
-      deferred_meant k ∙ ap by_nodes (sym (append-nil (drop k over_floor)) ∙ ap (λ (items : List (Item ℕ)). drop k over_floor ++ joined_items over_floor items) (sym l))
+      deferred_meant k ∙ ap by_nodes (sym (append-nil (drop k over_floor)) ∙ ap (λ (items : List (Item ℕ)). drop k over_floor ++ joined_items
+          over_floor
+          items) (sym l))
 
-  pub goals_settled : (next cut : ℕ) (xs : List (Item ℕ)) → base ≤ next → Each (IsItemOver next cut) xs → list_all (is_item_settled next) (branch_goals scope deferred xs) ≡ true
+  pub goals_settled : (next cut : ℕ) (xs : List (Item ℕ)) → base ≤ next → Each (IsItemOver next cut) xs
+      → list_all (is_item_settled next) (branch_goals scope deferred xs) ≡ true
   goals_settled next cut [] le e = refl
   goals_settled next cut (GoalItem t n ∷ xs) le e =
-      and_both (is_term_below next t) (list_all (is_item_settled next) (branch_goals scope deferred xs)) (le_test _ next e.0.0) (goals_settled next cut xs le e.1)
+      and_both (is_term_below next t) (list_all (is_item_settled next) (branch_goals scope deferred xs)) (le_test _ next e.0.0)
+          (goals_settled next cut xs le e.1)
   goals_settled next cut (CatchMark n ∷ xs) le e = goals_settled next cut xs le e.1
   goals_settled next cut (CollectMark t n ∷ xs) le e =
-      and_both (is_term_below next t) (list_all (is_item_settled next) (branch_goals scope deferred xs)) (le_test _ next e.0.0) (goals_settled next cut xs le e.1)
+      and_both (is_term_below next t) (list_all (is_item_settled next) (branch_goals scope deferred xs)) (le_test _ next e.0.0)
+          (goals_settled next cut xs le e.1)
   goals_settled next cut (RemovalItem k ∷ xs) le e = settled_more base next (drop k deferred) le (drop_settled base k deferred settled)
 
-  pub joined_over : (xs : List (Item ℕ)) → Each (IsOverChoices (floor_in p) p.groups) xs → Each (IsOverChoices (floor_in p) p.groups) (joined_items over_floor xs)
+  pub joined_over : (xs : List (Item ℕ)) → Each (IsOverChoices (floor_in p) p.groups) xs
+      → Each (IsOverChoices (floor_in p) p.groups) (joined_items over_floor xs)
   joined_over [] e = tt
   joined_over (GoalItem t n ∷ xs) e = (e.0, joined_over xs e.1)
   joined_over (CatchMark n ∷ xs) e = (e.0, joined_over xs e.1)

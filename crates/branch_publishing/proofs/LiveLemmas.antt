@@ -18,29 +18,38 @@ use Rattle.branch_publishing.specs.LiveChoices.{ChoicesMean, live_before, live_m
 -- bindings after others
 pub joined_lead : (lead : Lead) (newest under now : BoundThen) (bs all : List Binding) → StandsForOlder newest.bound → LeadsFrom lead newest under
     → ExtendsBy under.bound now.bound now.next (captured_bindings bs) → under.next ≤ now.next → lead.bindings ++ bs ≡ all
-    → (base : ℕ) → base ≡ lead.base → ExtendsBy newest.bound now.bound now.next (captured_bindings all) × (base ≡ newest.next) × (newest.next ≤ now.next)
+    → (base : ℕ) → base ≡ lead.base → ExtendsBy newest.bound now.bound now.next (captured_bindings all) × (base ≡ newest.next) ×
+        (newest.next ≤ now.next)
 joined_lead lead newest under now bs all older l e more is base same =
-    let both = extensions_compose newest.bound under.bound now.bound under.next now.next (captured_bindings lead.bindings) (captured_bindings bs) older l.extends e more in (
-      subst (λ xs. ExtendsBy newest.bound now.bound now.next xs) (sym (map-append (λ (b : Binding). (b.var, b.value)) lead.bindings bs) ∙ ap captured_bindings is) both,
+    let both = extensions_compose newest.bound under.bound now.bound under.next now.next (captured_bindings lead.bindings) (captured_bindings bs)
+        older
+        l.extends e more in (
+      subst (λ xs. ExtendsBy newest.bound now.bound now.next xs) (sym (map-append (λ (b : Binding). (b.var, b.value)) lead.bindings bs)
+          ∙ ap captured_bindings is) both,
       same ∙ l.base,
       let m = l.more in omega (arith, m, more),
     )
 
-none_meant : (lists : ItemLists) (s : _) (n cut : ℕ) (taken : List CapturedAlternative) (ms : List MeantAlternative) → AreMeant lists s n cut taken ms → length taken ≡ 0 → ms ≡ []
+none_meant : (lists : ItemLists) (s : _) (n cut : ℕ) (taken : List CapturedAlternative) (ms : List MeantAlternative) → AreMeant lists s n cut taken ms
+    → length taken ≡ 0 → ms ≡ []
 none_meant lists s n cut [] [] k e = refl
 none_meant lists s n cut [] (m ∷ ms) k e = elim k [ ]
 none_meant lists s n cut (a ∷ taken) ms k e = absurd (omega (arith, e))
 
-some_meant : (lists : ItemLists) (s : _) (n cut : ℕ) (taken : List CapturedAlternative) (c : MeantChoice) → AreMeant lists s n cut taken c.alternatives → 0 < length taken
+some_meant : (lists : ItemLists) (s : _) (n cut : ℕ) (taken : List CapturedAlternative) (c : MeantChoice)
+    → AreMeant lists s n cut taken c.alternatives
+    → 0 < length taken
     → live_before c.alternatives c [] ≡ c ∷ []
 some_meant lists s n cut taken c k lt = by_case taken c.alternatives k lt
   where
-    by_case : (taken : List CapturedAlternative) (ms : List MeantAlternative) → AreMeant lists s n cut taken ms → 0 < length taken → live_before ms c [] ≡ c ∷ []
+    by_case : (taken : List CapturedAlternative) (ms : List MeantAlternative) → AreMeant lists s n cut taken ms → 0 < length taken
+        → live_before ms c [] ≡ c ∷ []
     by_case [] ms k lt = absurd (omega (arith, lt))
     by_case (a ∷ taken) [] k lt = elim k [ ]
     by_case (a ∷ taken) (m ∷ ms) k lt = refl
 
-mean_next : (lists : ItemLists) (under newest : BoundThen) (cs : List LiveChoice) (ms : List MeantChoice) (c : LiveChoice) (m : MeantChoice) → MeanLive lists under cs ms newest
+mean_next : (lists : ItemLists) (under newest : BoundThen) (cs : List LiveChoice) (ms : List MeantChoice) (c : LiveChoice) (m : MeantChoice)
+    → MeanLive lists under cs ms newest
     → MeansLive lists newest c m → MeanLive lists under (cs ++ c ∷ []) (ms ++ m ∷ []) m.came
 mean_next lists under newest [] [] c m k h = (subst (λ u. MeansLive lists u c m) (sym k) h, refl)
 mean_next lists under newest [] (n ∷ ms) c m k h = elim k [ ]
@@ -51,10 +60,12 @@ mean_next lists under newest (d ∷ cs) (n ∷ ms) c m k h = (k.0, mean_next lis
 below_of : (lists : ItemLists) (under : BoundThen) (cut : ℕ) (c : CapturedChoice) (m : MeantChoice) → CapturesChoice lists under cut c m
     → ExtendsBy under.bound m.came.bound m.came.next (captured_bindings c.below) × (under.next ≤ m.came.next)
 below_of lists under cut c m k =
-    (subst (λ n. ExtendsBy under.bound m.came.bound n (captured_bindings c.below)) (sym k.next) k.below, let e = k.next in let f = k.more in omega (arith, e, f))
+    (subst (λ n. ExtendsBy under.bound m.came.bound n (captured_bindings c.below)) (sym k.next) k.below, let e = k.next in let f = k.more in omega
+        (arith, e, f))
 
 -- one with no alternative
-pub adds_empty : (before live : LiveChoices) (c : CapturedChoice) → length c.alternatives.items ≡ 0 → live.choices ≡ before.choices → live.since.base ≡ before.since.base
+pub adds_empty : (before live : LiveChoices) (c : CapturedChoice) → length c.alternatives.items ≡ 0 → live.choices ≡ before.choices
+    → live.since.base ≡ before.since.base
     → before.since.bindings ++ c.below ≡ live.since.bindings → AddsChoice before c live
 adds_empty before live c none same base joined lists start end cut ms m k h =
     let e = below_of lists end cut c m h in
@@ -62,15 +73,18 @@ adds_empty before live c none same base joined lists start end cut ms m k h =
     let gone = none_meant lists m.came.bound c.next cut c.alternatives.items m.alternatives h.alternatives none in
     record {
       newest = k.newest;
-      choices = subst (λ xs. MeanLive lists start live.choices.items xs k.newest) (sym (append-nil ms) ∙ ap (λ (xs : List MeantAlternative). ms ++ live_before xs m []) (sym gone))
+      choices = subst (λ xs. MeanLive lists start live.choices.items xs k.newest) (sym (append-nil ms)
+          ∙ ap (λ (xs : List MeantAlternative). ms ++ live_before xs m []) (sym gone))
           (subst (λ (xs : _). MeanLive lists start xs ms k.newest) (sym (ap (λ x. x.items) same)) k.choices);
       since = record { base = j.1; more = j.2; extends = j.0 };
       older = k.older;
     }
 
 -- one with some
-pub adds_live : (before live : LiveChoices) (c : CapturedChoice) (l : LiveChoice) → 0 < length c.alternatives.items → live.choices.items ≡ before.choices.items ++ l ∷ []
-    → l.kind ≡ c.kind → l.next ≡ c.next → l.alternatives ≡ c.alternatives → l.lead.base ≡ before.since.base → before.since.bindings ++ c.below ≡ l.lead.bindings
+pub adds_live : (before live : LiveChoices) (c : CapturedChoice) (l : LiveChoice) → 0 < length c.alternatives.items
+    → live.choices.items ≡ before.choices.items ++ l ∷ []
+    → l.kind ≡ c.kind → l.next ≡ c.next → l.alternatives ≡ c.alternatives → l.lead.base ≡ before.since.base
+        → before.since.bindings ++ c.below ≡ l.lead.bindings
     → live.since.base ≡ c.next → live.since.bindings ≡ [] → AddsChoice before c live
 adds_live before live c l some more kind next alternatives base joined from none lists start end cut ms m k h =
     let e = below_of lists end cut c m h in
@@ -83,24 +97,29 @@ adds_live before live c l some more kind next alternatives base joined from none
       lead = record { base = j.1; more = j.2; extends = j.0 };
       cut = cut;
       alternatives = subst (λ n. AreMeant lists m.came.bound n cut l.alternatives.items m.alternatives) (sym h.next)
-          (subst (λ (xs : List CapturedAlternative). AreMeant lists m.came.bound c.next cut xs m.alternatives) (sym (ap (λ x. x.items) alternatives)) h.alternatives);
+          (subst (λ (xs : List CapturedAlternative). AreMeant lists m.came.bound c.next cut xs m.alternatives) (sym (ap (λ x. x.items) alternatives))
+              h.alternatives);
       alone = h.alone;
     } in
     record {
       newest = m.came;
       choices = subst (λ xs. MeanLive lists start live.choices.items xs m.came) (ap (λ xs. ms ++ xs) (sym is))
-          (subst (λ (xs : List LiveChoice). MeanLive lists start xs (ms ++ m ∷ []) m.came) (sym more) (mean_next lists start k.newest before.choices.items ms l m k.choices own));
+          (subst (λ (xs : List LiveChoice). MeanLive lists start xs (ms ++ m ∷ []) m.came) (sym more)
+              (mean_next lists start k.newest before.choices.items ms l m k.choices own));
       since = record {
         base = from ∙ sym h.next;
         more = omega arith;
         extends = subst (λ (xs : List Binding). ExtendsBy m.came.bound m.came.bound m.came.next (captured_bindings xs)) (sym none)
-            (nothing_extends m.came.bound m.came.next (extensions_are_final k.newest.bound m.came.bound m.came.next (captured_bindings l.lead.bindings) k.older j.0));
+            (nothing_extends m.came.bound m.came.next (extensions_are_final k.newest.bound m.came.bound m.came.next
+                (captured_bindings l.lead.bindings)
+                k.older j.0));
       };
       older = older;
     }
 
 -- those before the ones that are left
-pub record LiveUpTo (lists : ItemLists) (start end : BoundThen) (left : List CapturedChoice) (all : List MeantChoice) (live : LiveChoices) : Type 0 where
+pub record LiveUpTo (lists : ItemLists) (start end : BoundThen) (left : List CapturedChoice) (all : List MeantChoice) (live : LiveChoices) : Type 0
+    where
   pub done : List MeantChoice
   pub ms : List MeantChoice
   pub mid : BoundThen
@@ -113,7 +132,8 @@ abbrev pub AreLiveUpTo : ℕ → List CapturedChoice → List CapturedChoice →
 AreLiveUpTo base all left live = (lists : ItemLists) (start end : BoundThen) (cut : ℕ) (ms : List MeantChoice) → IsStart base start
     → ChoicesMean lists start cut all ms end → LiveUpTo lists start end left ms live
 
-pub none_live : (base : ℕ) (all : List CapturedChoice) (live : LiveChoices) → live.choices.items ≡ [] → live.since.base ≡ base → live.since.bindings ≡ [] → AreLiveUpTo base all all live
+pub none_live : (base : ℕ) (all : List CapturedChoice) (live : LiveChoices) → live.choices.items ≡ [] → live.since.base ≡ base
+    → live.since.bindings ≡ [] → AreLiveUpTo base all all live
 none_live base all live none from free lists start end cut ms s k = record {
   done = [];
   ms = ms;
@@ -126,7 +146,8 @@ none_live base all live none from free lists start end cut ms s k = record {
     since = record {
       base = from ∙ sym s.number;
       more = omega arith;
-      extends = subst (λ (xs : List Binding). ExtendsBy start.bound start.bound start.next (captured_bindings xs)) (sym free) (nothing_extends start.bound start.next s.applied);
+      extends = subst (λ (xs : List Binding). ExtendsBy start.bound start.bound start.next (captured_bindings xs)) (sym free)
+          (nothing_extends start.bound start.next s.applied);
     };
     older = s.older;
   };
@@ -137,11 +158,13 @@ live_split : (m : MeantChoice) (xs : List MeantAlternative) (ms : List MeantChoi
 live_split m [] ms = refl
 live_split m (a ∷ xs) ms = refl
 
-pub one_live : (base : ℕ) (all left : List CapturedChoice) (c : CapturedChoice) (before live : LiveChoices) → AreLiveUpTo base all (c ∷ left) before → AddsChoice before c live
+pub one_live : (base : ℕ) (all left : List CapturedChoice) (c : CapturedChoice) (before live : LiveChoices) → AreLiveUpTo base all (c ∷ left) before
+    → AddsChoice before c live
     → AreLiveUpTo base all left live
 one_live base all left c before live k h lists start end cut ms s g = with_one (k lists start end cut ms s g)
   where
-    by_case : (u : LiveUpTo lists start end (c ∷ left) ms before) (rest : List MeantChoice) → ChoicesMean lists u.mid u.cut (c ∷ left) rest end → live_meant ms ≡ u.done ++ live_meant rest
+    by_case : (u : LiveUpTo lists start end (c ∷ left) ms before) (rest : List MeantChoice) → ChoicesMean lists u.mid u.cut (c ∷ left) rest end
+        → live_meant ms ≡ u.done ++ live_meant rest
         → LiveUpTo lists start end left ms live
     by_case u [] r w = elim r [ ]
     by_case u (m ∷ rest) r w = record {
@@ -151,7 +174,8 @@ one_live base all left c before live k h lists start end cut ms s g = with_one (
       cut = suc u.cut;
       rest = r.1;
       mean = h lists start u.mid u.cut u.done m u.mean r.0;
-      whole = w ∙ (ap (λ xs. u.done ++ xs) (live_split m m.alternatives (live_meant rest)) ∙ sym (append_assoc u.done (live_before m.alternatives m []) (live_meant rest)));
+      whole = w ∙ (ap (λ xs. u.done ++ xs) (live_split m m.alternatives (live_meant rest))
+          ∙ sym (append_assoc u.done (live_before m.alternatives m []) (live_meant rest)));
     }
 
     with_one : LiveUpTo lists start end (c ∷ left) ms before → LiveUpTo lists start end left ms live
@@ -160,7 +184,8 @@ one_live base all left c before live k h lists start end cut ms s g = with_one (
 pub all_live : (base : ℕ) (all : List CapturedChoice) (live : LiveChoices) → AreLiveUpTo base all [] live → AreLive base all live
 all_live base all live k lists start end cut ms s g = with_all (k lists start end cut ms s g)
   where
-    by_case : (u : LiveUpTo lists start end [] ms live) (rest : List MeantChoice) → ChoicesMean lists u.mid u.cut [] rest end → live_meant ms ≡ u.done ++ live_meant rest
+    by_case : (u : LiveUpTo lists start end [] ms live) (rest : List MeantChoice) → ChoicesMean lists u.mid u.cut [] rest end
+        → live_meant ms ≡ u.done ++ live_meant rest
         → LiveMean lists start live (live_meant ms) end
     by_case u (m ∷ rest) r w = elim r [ ]
     by_case u [] r w = subst (λ x. LiveMean lists start live (live_meant ms) x) r

@@ -38,9 +38,11 @@ guard_entry p deferred Choice m = refl
 guard_entry p deferred (Catch catcher recovery) m = refl
 guard_entry p deferred (Findall list results) m = refl
 
-module _ (p : Placement) (deferred : List BranchItem) (base : ℕ) (lists : ItemLists) (goals : List (List BranchItem)) (g : GoalsAre p deferred base lists goals) where
+module _ (p : Placement) (deferred : List BranchItem) (base : ℕ) (lists : ItemLists) (goals : List (List BranchItem))
+    (g : GoalsAre p deferred base lists goals) where
   -- further branches of a choice point
-  choice_branches : (before : Substitution) (n cut i : ℕ) (taken : List CapturedAlternative) (ms : List MeantAlternative) (branches : List Branch) → base ≤ n
+  choice_branches : (before : Substitution) (n cut i : ℕ) (taken : List CapturedAlternative) (ms : List MeantAlternative) (branches : List Branch)
+      → base ≤ n
       → AreBranchesOf goals n taken branches → AreMeant lists before n cut taken ms → Each (CanBeBranch p Choice) ms
       → AlternativesMean p before n ChoiceBody i branches (map (published_entry p deferred Choice) ms)
   choice_branches before n cut i [] [] [] le b k e = tt
@@ -49,13 +51,15 @@ module _ (p : Placement) (deferred : List BranchItem) (base : ℕ) (lists : Item
   choice_branches before n cut i (a ∷ taken) [] branches le b k e = elim k [ ]
   choice_branches before n cut i (a ∷ taken) (m ∷ ms) [] le b k e = elim b [ ]
   choice_branches before n cut i (a ∷ taken) (m ∷ ms) (x ∷ branches) le b k e = (
-    branch_means p deferred base lists goals g before n cut a m x ChoiceBody i Choice (published_entry p deferred Choice m) le b.0 k.0 e.0 (always (i == 1))
+    branch_means p deferred base lists goals g before n cut a m x ChoiceBody i Choice (published_entry p deferred Choice m) le b.0 k.0 e.0
+        (always (i == 1))
         (plain_beside i m.bound (published_continuation p deferred m)),
     choice_branches before n cut (suc i) taken ms branches le b.1 k.1 e.1,
   )
 
   -- the one further branch of a guard
-  guard_branch : (before : Substitution) (n cut : ℕ) (own : CapturedKind) (taken : List CapturedAlternative) (ms : List MeantAlternative) (branches : List Branch) → base ≤ n
+  guard_branch : (before : Substitution) (n cut : ℕ) (own : CapturedKind) (taken : List CapturedAlternative) (ms : List MeantAlternative)
+      (branches : List Branch) → base ≤ n
       → length ms ≡ 1 → AreBranchesOf goals n taken branches → AreMeant lists before n cut taken ms → Each (CanBeBranch p own) ms
       → AlternativesMean p before n (kind_meant own) 1 branches (map (published_entry p deferred own) ms)
   guard_branch before n cut own taken [] branches le one b k e = absurd (omega (arith, one))
@@ -65,11 +69,16 @@ module _ (p : Placement) (deferred : List BranchItem) (base : ℕ) (lists : Item
   guard_branch before n cut own (a ∷ []) (m ∷ []) [] le one b k e = elim b [ ]
   guard_branch before n cut own (a ∷ []) (m ∷ []) (x ∷ (y ∷ branches)) le one b k e = elim b.1 [ ]
   guard_branch before n cut own (a ∷ []) (m ∷ []) (x ∷ []) le one b k e =
-      (branch_means p deferred base lists goals g before n cut a m x (kind_meant own) 1 own (published_entry p deferred own m) le b.0 k.0 e.0 e.0.guard (guard_entry p deferred own m), tt)
+      (branch_means p deferred base lists goals g before n cut a m x (kind_meant own) 1 own (published_entry p deferred own m) le b.0 k.0 e.0
+          e.0.guard
+          (guard_entry p deferred own m), tt)
 
-  pub further_mean : (before : Substitution) (n cut : ℕ) (own : CapturedKind) (taken : List CapturedAlternative) (ms : List MeantAlternative) (branches : List Branch) → base ≤ n
+  pub further_mean : (before : Substitution) (n cut : ℕ) (own : CapturedKind) (taken : List CapturedAlternative) (ms : List MeantAlternative)
+      (branches : List Branch) → base ≤ n
       → IsAloneOf own (length ms) → AreBranchesOf goals n taken branches → AreMeant lists before n cut taken ms → Each (CanBeBranch p own) ms
       → AlternativesMean p before n (kind_meant own) 1 branches (map (published_entry p deferred own) ms)
   further_mean before n cut Choice taken ms branches le one b k e = choice_branches before n cut 1 taken ms branches le b k e
-  further_mean before n cut (Catch catcher recovery) taken ms branches le one b k e = guard_branch before n cut (Catch catcher recovery) taken ms branches le one b k e
-  further_mean before n cut (Findall list results) taken ms branches le one b k e = guard_branch before n cut (Findall list results) taken ms branches le one b k e
+  further_mean before n cut (Catch catcher recovery) taken ms branches le one b k e = guard_branch before n cut (Catch catcher recovery) taken ms
+      branches le one b k e
+  further_mean before n cut (Findall list results) taken ms branches le one b k e = guard_branch before n cut (Findall list results) taken ms branches
+      le one b k e

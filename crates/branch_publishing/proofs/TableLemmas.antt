@@ -2,7 +2,8 @@
 use Rattle.std.proofs.Common.{◌≡◌, ℕ, zero, suc, ◌<◌, ◌≤◌, List, [], ◌∷◌, ◌++◌, length, drop, get_or, slice_get, Option, Some, refl, arith}
 
 -- what holds of each place holds with one more
-pub more_hold : {A : Type 0} (P : ℕ → Option A → Type 0) (xs : List A) (x : A) → ((n : ℕ) → n < length xs → P n (slice_get xs n)) → P (length xs) (Some x)
+pub more_hold : {A : Type 0} (P : ℕ → Option A → Type 0) (xs : List A) (x : A) → ((n : ℕ) → n < length xs → P n (slice_get xs n))
+    → P (length xs) (Some x)
     → (n : ℕ) → n < length (xs ++ x ∷ []) → P n (slice_get (xs ++ x ∷ []) n)
 more_hold P [] x h e zero lt = e
 more_hold P [] x h e (suc n) lt = absurd (omega (arith, lt))

@@ -28,4 +28,5 @@ pub record AreTailsOf (goals : List BranchItem) (tails : List (List BranchItem))
 
 -- the goals of so many numbers of items
 pub record AreGoalsOf (lists : ItemLists) (scope : ℕ → ℕ) (deferred : List BranchItem) (goals : List (List BranchItem)) : Type 0 where
-  pub each : (n : ℕ) (items : List (Item ℕ)) → n < length goals → HasItems lists n items → slice_get goals n ≡ Some (branch_goals scope deferred items)
+  pub each : (n : ℕ) (items : List (Item ℕ)) → n < length goals → HasItems lists n items
+      → slice_get goals n ≡ Some (branch_goals scope deferred items)

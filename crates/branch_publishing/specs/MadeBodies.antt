@@ -28,7 +28,8 @@ AreBranchesOf goals base (a ∷ alternatives) [] = ⊥
 AreBranchesOf goals base (a ∷ alternatives) (b ∷ branches) = IsBranchOf goals base a b × AreBranchesOf goals base alternatives branches
 
 -- behind a first one
-pub record MakesBranches (goals : List (List BranchItem)) (base : ℕ) (first : Branch) (alternatives : List CapturedAlternative) (branches : List Branch) : Type 0 where
+pub record MakesBranches (goals : List (List BranchItem)) (base : ℕ) (first : Branch) (alternatives : List CapturedAlternative)
+    (branches : List Branch) : Type 0 where
   pub others : List Branch
   pub are : branches ≡ first ∷ others
   pub each : AreBranchesOf goals base alternatives others
@@ -75,5 +76,7 @@ EndIn goals branch base (c ∷ (e ∷ choices)) (b ∷ bodies) = IsLeadingBody g
 -- after what leads to it from the newest choice point
 pub record MakeBodies (goals : List (List BranchItem)) (live : LiveChoices) (current : CapturedAlternative) (bodies : List Body) : Type 0 where
   pub branch : Branch
-  pub is : IsBranchOf goals live.since.base (record { first = current.first; bindings = live.since.bindings ++ current.bindings; next = current.next }) branch
+  pub is : IsBranchOf goals live.since.base (record { first = current.first; bindings = live.since.bindings ++ current.bindings; next = current.next
+      })
+      branch
   pub ends : EndIn goals branch live.since.base live.choices.items bodies

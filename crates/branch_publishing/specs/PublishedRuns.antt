@@ -33,7 +33,8 @@ published_continuation p deferred a = resolve_continuation a.bound (continuation
 -- the entry of an alternative at a choice point of a kind
 abbrev pub published_entry : Placement → List BranchItem → CapturedKind → MeantAlternative → Entry
 published_entry p deferred Choice a = PlainEntry (published_continuation p deferred a)
-published_entry p deferred (Catch catcher recovery) a = CatchEntry (resolve a.bound catcher) (resolve a.bound recovery) (published_continuation p deferred a)
+published_entry p deferred (Catch catcher recovery) a = CatchEntry (resolve a.bound catcher) (resolve a.bound recovery)
+    (published_continuation p deferred a)
 published_entry p deferred (Findall list results) a = FindallEntry results.items (resolve a.bound list) (published_continuation p deferred a)
 
 -- those of a choice point
@@ -62,9 +63,11 @@ pub record IsDeferredAt (p : Placement) (deferred : List BranchItem) (base : ℕ
   pub settled : list_all (is_item_settled base) deferred ≡ true
 
 -- what was taken off a region means these alternatives, from what was bound at the start
-pub record IsTakenOff (p : Placement) (deferred : List BranchItem) (start : BoundThen) (c : Captured) (current : MeantAlternative) (choices : List MeantChoice) : Type 0 where
+pub record IsTakenOff (p : Placement) (deferred : List BranchItem) (start : BoundThen) (c : Captured) (current : MeantAlternative)
+    (choices : List MeantChoice) : Type 0 where
   pub captured : CaptureChoices c.items start (floor_in p) c.choices.items choices
-  pub goes_on : let under = bound_under start choices in MeansAlternative c.items under.bound under.next (floor_in p + length choices) c.current current
+  pub goes_on : let under = bound_under start choices in MeansAlternative c.items under.bound under.next (floor_in p + length choices) c.current
+      current
   pub on_top : CanBeBranch p Choice current
   pub each : Each (λ m. Each (CanBeBranch p m.kind) m.alternatives) choices
   pub groups : p.groups ≡ map (published_group p deferred) (reverse choices)

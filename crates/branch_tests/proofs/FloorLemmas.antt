@@ -7,7 +7,7 @@ use Rattle.region_split.specs.Regions.{RegionView}
 use Rattle.region_split.specs.declared.choice.Alternatives.{Alternatives}
 use Rattle.region_split.specs.declared.choice.Alternatives.TheVariants.{Clauses, Solutions, Elsewhere, Catch, Findall, QueryEnd}
 use Rattle.region_split.specs.declared.choice.ChoicePoint.{ChoicePoint}
-use Rattle.region_capture.specs.CapturedRegions.{IsFloor}
+use Rattle.region_capture.specs.CapturedRegions.{IsCaptureFloor}
 
 no_end : (a : Alternatives) → IsCollecting a → IsEnd a → ⊥
 no_end (Clauses goal clause left) h e = e
@@ -27,5 +27,5 @@ own_from [] ends h = absurd h
 own_from (c ∷ cs) (inl e) h = (omega arith, first_own cs e.1 h)
 own_from (c ∷ cs) (inr e) h = (omega arith, e.1)
 
-pub floor_under : (r : RegionView) → AreEndsOldest r.choices → IsFindallAt r.choices 1 → IsFloor 1 r
+pub floor_under : (r : RegionView) → AreEndsOldest r.choices → IsFindallAt r.choices 1 → IsCaptureFloor 1 r
 floor_under r ends h = let own = own_from r.choices ends h in record { some = omega arith; many = own.0; own = own.1 }

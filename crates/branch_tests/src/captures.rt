@@ -15,7 +15,7 @@ use std::test::Fail;
 
 /// What is left above the end of the query, where a findall is right over that.
 #[tactic(auto, using(crate::proofs::FloorLemmas::floor_under))]
-fn take_off(
+pub(crate) fn take_off(
     rt: &impl Abort,
     alloc: Global,
     region: &mut Region,
@@ -30,13 +30,13 @@ fn take_off(
 
 /// What a choice point is for; of a catch what it catches and its recovery, of a findall its list and how many results.
 #[derive(Clone, Copy, Debug, PartialEq, Eq)]
-enum Kind {
+pub(crate) enum Kind {
     Choice,
     Catch(Top, Top),
     Findall(Top, usize),
 }
 
-fn top_of(term: &Shared) -> Result<Top, NoMemory> {
+pub(crate) fn top_of(term: &Shared) -> Result<Top, NoMemory> {
     Ok(top_of_cell(&term.top()?))
 }
 
@@ -51,10 +51,10 @@ fn kind_of(kind: &CapturedKind) -> Result<Kind, NoMemory> {
 }
 
 /// A variable and its value, where something is bound.
-type Bound = Option<(VarNo, Top)>;
+pub(crate) type Bound = Option<(VarNo, Top)>;
 
 /// The binding, where there is one at most.
-fn only(bindings: &Bindings) -> Result<Bound, Fail> {
+pub(crate) fn only(bindings: &Bindings) -> Result<Bound, Fail> {
     let all = bindings.as_slice();
     if all.len() > 1 {
         return Err("one binding")?;

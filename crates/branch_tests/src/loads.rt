@@ -154,7 +154,10 @@ fn run(
     task: &mut TaskRegion,
     kinds: &GoalKinds,
     limit: u64,
-) -> Result<(u64, Why), Fail> {
+) -> Result<(u64, Why), Fail>
+    requires { kinds.now ≡ task.old.region.text.code.names }
+    ensures { OnOk result (task.new.region.text ≡ task.old.region.text) }
+{
     let ran = task.run(alloc, kinds, limit)?;
     Ok((ran.taken, reason(&ran.stop)))
 }
