@@ -23,7 +23,7 @@ use Rattle.branch_publishing.proofs.ChainLemmas.{CanBeBody, bodies_show}
 module _ (p : Placement) (deferred : List BranchItem) (base : ℕ) (lists : ItemLists) (goals : List (List BranchItem))
     (g : GoalsAre p deferred base lists goals)
     (branch : Branch) (from : ℕ) (e : Entry) (newest : BoundThen) (top : (kind : BodyKind) → GoalsMean p newest.bound newest.next kind 0 branch e)
-        (there : from ≡ newest.next) where
+    (there : from ≡ newest.next) where
   alone_shows : (start : BoundThen) (b : Body) → IsStart base start → start ≡ newest → IsAloneBody from branch b
       → AllShow (BranchMeans p) e start.next start.bound (b ∷ []) ([] ∷ [])
   alone_shows start b s r i =
@@ -53,7 +53,7 @@ module _ (p : Placement) (deferred : List BranchItem) (base : ℕ) (lists : Item
   pub all_show : (start : BoundThen) (choices : List LiveChoice) (ms : List MeantChoice) (bodies : List Body) → IsStart base start
       → EndIn goals branch from choices bodies
       → MeanLive lists start choices ms newest → Each (CanBeBody p) ms → AllShow (BranchMeans p) e start.next start.bound bodies
-          (or_alone (map (published_group p deferred) ms))
+      (or_alone (map (published_group p deferred) ms))
   all_show start [] [] [] s i r can = elim i [ ]
   all_show start [] [] (b ∷ []) s i r can = alone_shows start b s r i
   all_show start [] [] (b ∷ (d ∷ bodies)) s i r can = elim i [ ]
@@ -63,5 +63,5 @@ module _ (p : Placement) (deferred : List BranchItem) (base : ℕ) (lists : Item
   all_show start (c ∷ (f ∷ choices)) (m ∷ ms) [] s i r can = elim i [ ]
   all_show start (c ∷ choices) (m ∷ ms) (b ∷ bodies) s i r can =
       bodies_show p deferred base lists goals g branch from e newest top start c choices m ms b bodies (let n = s.number in omega (arith, n)) s.older
-          i
-          r.0 r.1 can.0 can.1
+      i
+      r.0 r.1 can.0 can.1

@@ -52,7 +52,7 @@ module _ (lists : ItemLists) (under : BoundThen) (c : LiveChoice) (m : MeantChoi
 pub body_means : (p : Placement) (deferred : List BranchItem) (base : ℕ) (lists : ItemLists) (goals : List (List BranchItem))
     → GoalsAre p deferred base lists goals
     → (under : BoundThen) (c : LiveChoice) (m : MeantChoice) (first : Branch) (b : Body) → base ≤ under.next → IsBodyOf goals c first b
-        → MeansLive lists under c m
+    → MeansLive lists under c m
     → Each (CanBeBranch p m.kind) m.alternatives → BodyMeans p under.next under.bound m.came.bound b (published_group p deferred m)
 body_means p deferred base lists goals g under c m first b le i k can =
     let is : b.kind ≡ kind_meant m.kind = i.kind ∙ ap kind_meant k.kind in
@@ -69,5 +69,5 @@ body_means p deferred base lists goals g under c m first b le i k can =
           (subst (λ x. AlternativesMean p m.came.bound m.came.next x 1 i.made.others (published_group p deferred m)) (sym is)
           (further_mean p deferred base lists goals g m.came.bound m.came.next k.cut m.kind c.alternatives.items m.alternatives i.made.others
           (let o = k.lead.more in omega (arith, le, o)) k.alone (subst (λ n. AreBranchesOf goals n c.alternatives.items i.made.others) k.next
-              i.made.each) k.alternatives can));
+          i.made.each) k.alternatives can));
     }

@@ -45,11 +45,11 @@ module _ (p : Placement) (deferred : List BranchItem) (base : ℕ) (lists : Item
   pub branch_means : (before : Substitution) (n cut : ℕ) (a : CapturedAlternative) (m : MeantAlternative) (b : Branch) (kind : BodyKind) (i : ℕ)
       (own : CapturedKind) (e : Entry)
       → base ≤ n → IsBranchOf goals n a b → MeansAlternative lists before n cut a m → CanBeBranch p own m
-          → cond (i == 1) (is_guard_settled m.next kind) true ≡ true
+      → cond (i == 1) (is_guard_settled m.next kind) true ≡ true
       → e ≡ entry_beside kind i m.bound (published_continuation p deferred m) → GoalsMean p before n kind i b e
   branch_means before n cut a m b kind i own e from k h can guard is =
       let end : number_after b.segment ≡ m.next = let f = k.from in let v = k.variables in let q = h.next in let o = h.more in omega
-          (arith, f, v, q, o) in
+      (arith, f, v, q, o) in
       let last : number_after b.segment ≡ a.next = end ∙ h.next in
       let mine = own_goals n a b m.items k h.items in
       record {

@@ -57,15 +57,18 @@ live_later lists under end (c ∷ cs) (m ∷ ms) k = let h = live_later lists m.
 goes_on_there : (lists : ItemLists) (start end : BoundThen) (cut : ℕ) (live : LiveChoices) (ms : List MeantChoice) (a : CapturedAlternative)
     (m : MeantAlternative) (l : LiveMean lists start live ms end)
     → MeansAlternative lists end.bound end.next cut a m
-    → MeansAlternative lists l.newest.bound l.newest.next cut (record { first = a.first; bindings = live.since.bindings ++ a.bindings; next = a.next
-        })
-        m
+    → MeansAlternative lists l.newest.bound l.newest.next cut (record {
+      first = a.first;
+      bindings = live.since.bindings ++ a.bindings;
+      next = a.next;
+    })
+    m
 goes_on_there lists start end cut live ms a m l k = record {
   items = k.items;
   extends = subst (λ xs. ExtendsBy l.newest.bound m.bound a.next xs) (sym (map-append (λ (b : Binding). (b.var, b.value)) live.since.bindings
       a.bindings))
       (extensions_compose l.newest.bound end.bound m.bound end.next a.next (captured_bindings live.since.bindings) (captured_bindings a.bindings)
-          l.older l.since.extends k.extends k.more);
+      l.older l.since.extends k.extends k.more);
   next = k.next;
   more = let o = l.since.more in let q = k.more in omega (arith, o, q);
   over = k.over;
@@ -76,16 +79,16 @@ pub run_means : (p : Placement) (deferred : List BranchItem) (base next : ℕ) (
     (oldest : List CapturedChoice) (scopes : List ℕ) (goals : List (List BranchItem)) (live : LiveChoices) (bodies : List Body)
     → oldest ≡ reverse c.choices.items → IsStart base start → IsDeferredAt p deferred base branch next → IsTakenOff p deferred start c current choices
     → AreScopesOf branch oldest next scopes → length goals ≡ length c.items → AreGoalsOf c.items (scope_at scopes) deferred goals
-        → AreLive base oldest live → MakeBodies goals live c.current bodies
+    → AreLive base oldest live → MakeBodies goals live c.current bodies
     → MeanRun p base start.bound bodies (published_entry p deferred Choice current)
 run_means p deferred base next branch c start current choices oldest scopes goals live bodies turned s d t a many are lives made =
     let lists : ItemLists = c.items in
     let end : BoundThen = bound_under start choices in
     let meant : ChoicesMean lists start (floor_in p) oldest (reverse choices) end
     = subst (λ (xs : List CapturedChoice). ChoicesMean lists start (floor_in p) xs (reverse choices) end) (sym turned)
-        (oldest_first lists start (floor_in p) c.choices.items choices t.captured) in
+    (oldest_first lists start (floor_in p) c.choices.items choices t.captured) in
     let groups : AreGroupsOf oldest p.groups = subst (λ gs. AreGroupsOf oldest gs) (sym t.groups)
-        (groups_are p deferred lists start end (floor_in p) oldest (reverse choices) meant) in
+    (groups_are p deferred lists start end (floor_in p) oldest (reverse choices) meant) in
     let g : GoalsAre p deferred base lists goals = record {
       scope = scope_at scopes;
       scoped = λ n. scope_is next p.levels p.groups scopes (a.kept p.levels p.groups d.nodes groups) n
@@ -99,13 +102,16 @@ run_means p deferred base next branch c start current choices oldest scopes goal
     let later = live_later lists start l.newest live.choices.items (live_meant (reverse choices)) l.choices in
     let own = goes_on_there lists start end (floor_in p + length choices) live (live_meant (reverse choices)) c.current current l t.goes_on in
     let e : Entry = published_entry p deferred Choice current in
-    let first = subst (λ n. IsBranchOf goals n (record { first = c.current.first; bindings = live.since.bindings ++ c.current.bindings;
-        next = c.current.next }) made.branch) l.since.base made.is in
+    let first = subst (λ n. IsBranchOf goals n (record {
+      first = c.current.first;
+      bindings = live.since.bindings ++ c.current.bindings;
+      next = c.current.next;
+    }) made.branch) l.since.base made.is in
     let top : (kind : BodyKind) → GoalsMean p l.newest.bound l.newest.next kind 0 made.branch e
     = λ kind. branch_means p deferred base lists goals g l.newest.bound l.newest.next (floor_in p + length choices)
     (record { first = c.current.first; bindings = live.since.bindings ++ c.current.bindings; next = c.current.next }) current made.branch kind 0
-        Choice
-        e
+    Choice
+    e
     (let n = s.number in omega (arith, later, n)) first own t.on_top refl refl in
     let nodes : node_groups p.groups ≡ or_alone (map (published_group p deferred) (live_meant (reverse choices)))
     = ap (λ gs. node_groups gs) t.groups ∙ ap (λ gs. or_alone gs) (live_groups p deferred (reverse choices)) in
@@ -113,4 +119,4 @@ run_means p deferred base next branch c start current choices oldest scopes goal
     subst (λ gs. AllShow (BranchMeans p) e base start.bound bodies gs) (sym nodes)
     (subst (λ n. AllShow (BranchMeans p) e n start.bound bodies (or_alone (map (published_group p deferred) (live_meant (reverse choices))))) s.number
     (all_show p deferred base lists goals g made.branch live.since.base e l.newest top l.since.base start live.choices.items
-        (live_meant (reverse choices)) bodies s made.ends l.choices can))
+    (live_meant (reverse choices)) bodies s made.ends l.choices can))

@@ -73,7 +73,7 @@ settled_more : (base next : ℕ) (xs : List BranchItem) → base ≤ next → li
 settled_more base next [] le s = refl
 settled_more base next (x ∷ xs) le s =
     and_both (is_item_settled next x) (list_all (is_item_settled next) xs) (item_more base next x le
-        (and_left (is_item_settled base x) (list_all (is_item_settled base) xs) s))
+    (and_left (is_item_settled base x) (list_all (is_item_settled base) xs) s))
     (settled_more base next xs le (and_right (is_item_settled base x) (list_all (is_item_settled base) xs) s))
 
 each_drop : {X : Type 0} (P : X → Type 0) (k : ℕ) (xs : List X) → Each P xs → Each P (drop k xs)
@@ -85,7 +85,7 @@ each_drop P (suc k) (x ∷ xs) e = each_drop P k xs e.1
 -- goals of an alternative
 module _ (p : Placement) (deferred : List BranchItem) (base : ℕ) (scope : ℕ → ℕ) (scoped : (n : ℕ)
     → scope n ≡ choice_scope p.number p.levels p.groups n) (names : Each (NamesLevels p.levels) (items_meant deferred))
-        (settled : list_all (is_item_settled base) deferred ≡ true) where
+    (settled : list_all (is_item_settled base) deferred ≡ true) where
   abbrev stay : StayOverFloor p.number p.levels p.groups (items_meant deferred)
   stay = floor_items_stay p.number p.levels p.groups (items_meant deferred) names
 
@@ -107,19 +107,19 @@ module _ (p : Placement) (deferred : List BranchItem) (base : ℕ) (scope : ℕ 
   goals_meant (CollectMark t n ∷ xs) l = ap₂ (λ s (items : List (Item ℕ)). CollectMark t s ∷ items) (scoped (suc n)) (goals_meant xs l)
   goals_meant (RemovalItem k ∷ xs) l =
       deferred_meant k ∙ ap by_nodes (sym (append-nil (drop k over_floor)) ∙ ap (λ (items : List (Item ℕ)). drop k over_floor ++ joined_items
-          over_floor
-          items) (sym l))
+      over_floor
+      items) (sym l))
 
   pub goals_settled : (next cut : ℕ) (xs : List (Item ℕ)) → base ≤ next → Each (IsItemOver next cut) xs
       → list_all (is_item_settled next) (branch_goals scope deferred xs) ≡ true
   goals_settled next cut [] le e = refl
   goals_settled next cut (GoalItem t n ∷ xs) le e =
       and_both (is_term_below next t) (list_all (is_item_settled next) (branch_goals scope deferred xs)) (le_test _ next e.0.0)
-          (goals_settled next cut xs le e.1)
+      (goals_settled next cut xs le e.1)
   goals_settled next cut (CatchMark n ∷ xs) le e = goals_settled next cut xs le e.1
   goals_settled next cut (CollectMark t n ∷ xs) le e =
       and_both (is_term_below next t) (list_all (is_item_settled next) (branch_goals scope deferred xs)) (le_test _ next e.0.0)
-          (goals_settled next cut xs le e.1)
+      (goals_settled next cut xs le e.1)
   goals_settled next cut (RemovalItem k ∷ xs) le e = settled_more base next (drop k deferred) le (drop_settled base k deferred settled)
 
   pub joined_over : (xs : List (Item ℕ)) → Each (IsOverChoices (floor_in p) p.groups) xs

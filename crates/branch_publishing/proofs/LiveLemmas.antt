@@ -19,11 +19,11 @@ use Rattle.branch_publishing.specs.LiveChoices.{ChoicesMean, live_before, live_m
 pub joined_lead : (lead : Lead) (newest under now : BoundThen) (bs all : List Binding) → StandsForOlder newest.bound → LeadsFrom lead newest under
     → ExtendsBy under.bound now.bound now.next (captured_bindings bs) → under.next ≤ now.next → lead.bindings ++ bs ≡ all
     → (base : ℕ) → base ≡ lead.base → ExtendsBy newest.bound now.bound now.next (captured_bindings all) × (base ≡ newest.next) ×
-        (newest.next ≤ now.next)
+    (newest.next ≤ now.next)
 joined_lead lead newest under now bs all older l e more is base same =
     let both = extensions_compose newest.bound under.bound now.bound under.next now.next (captured_bindings lead.bindings) (captured_bindings bs)
-        older
-        l.extends e more in (
+    older
+    l.extends e more in (
       subst (λ xs. ExtendsBy newest.bound now.bound now.next xs) (sym (map-append (λ (b : Binding). (b.var, b.value)) lead.bindings bs)
           ∙ ap captured_bindings is) both,
       same ∙ l.base,
@@ -59,9 +59,11 @@ mean_next lists under newest (d ∷ cs) (n ∷ ms) c m k h = (k.0, mean_next lis
 -- the extension of a choice point, by its own next number
 below_of : (lists : ItemLists) (under : BoundThen) (cut : ℕ) (c : CapturedChoice) (m : MeantChoice) → CapturesChoice lists under cut c m
     → ExtendsBy under.bound m.came.bound m.came.next (captured_bindings c.below) × (under.next ≤ m.came.next)
-below_of lists under cut c m k =
-    (subst (λ n. ExtendsBy under.bound m.came.bound n (captured_bindings c.below)) (sym k.next) k.below, let e = k.next in let f = k.more in omega
-        (arith, e, f))
+below_of lists under cut c m k = (
+  subst (λ n. ExtendsBy under.bound m.came.bound n (captured_bindings c.below)) (sym k.next) k.below,
+  let e = k.next in let f = k.more in omega
+      (arith, e, f),
+)
 
 -- one with no alternative
 pub adds_empty : (before live : LiveChoices) (c : CapturedChoice) → length c.alternatives.items ≡ 0 → live.choices ≡ before.choices
@@ -84,7 +86,7 @@ adds_empty before live c none same base joined lists start end cut ms m k h =
 pub adds_live : (before live : LiveChoices) (c : CapturedChoice) (l : LiveChoice) → 0 < length c.alternatives.items
     → live.choices.items ≡ before.choices.items ++ l ∷ []
     → l.kind ≡ c.kind → l.next ≡ c.next → l.alternatives ≡ c.alternatives → l.lead.base ≡ before.since.base
-        → before.since.bindings ++ c.below ≡ l.lead.bindings
+    → before.since.bindings ++ c.below ≡ l.lead.bindings
     → live.since.base ≡ c.next → live.since.bindings ≡ [] → AddsChoice before c live
 adds_live before live c l some more kind next alternatives base joined from none lists start end cut ms m k h =
     let e = below_of lists end cut c m h in
@@ -98,35 +100,35 @@ adds_live before live c l some more kind next alternatives base joined from none
       cut = cut;
       alternatives = subst (λ n. AreMeant lists m.came.bound n cut l.alternatives.items m.alternatives) (sym h.next)
           (subst (λ (xs : List CapturedAlternative). AreMeant lists m.came.bound c.next cut xs m.alternatives) (sym (ap (λ x. x.items) alternatives))
-              h.alternatives);
+          h.alternatives);
       alone = h.alone;
     } in
     record {
       newest = m.came;
       choices = subst (λ xs. MeanLive lists start live.choices.items xs m.came) (ap (λ xs. ms ++ xs) (sym is))
           (subst (λ (xs : List LiveChoice). MeanLive lists start xs (ms ++ m ∷ []) m.came) (sym more)
-              (mean_next lists start k.newest before.choices.items ms l m k.choices own));
+          (mean_next lists start k.newest before.choices.items ms l m k.choices own));
       since = record {
         base = from ∙ sym h.next;
         more = omega arith;
         extends = subst (λ (xs : List Binding). ExtendsBy m.came.bound m.came.bound m.came.next (captured_bindings xs)) (sym none)
             (nothing_extends m.came.bound m.came.next (extensions_are_final k.newest.bound m.came.bound m.came.next
-                (captured_bindings l.lead.bindings)
-                k.older j.0));
+            (captured_bindings l.lead.bindings)
+            k.older j.0));
       };
       older = older;
     }
 
 -- those before the ones that are left
 pub record LiveUpTo (lists : ItemLists) (start end : BoundThen) (left : List CapturedChoice) (all : List MeantChoice) (live : LiveChoices) : Type 0
-    where
-  pub done : List MeantChoice
-  pub ms : List MeantChoice
-  pub mid : BoundThen
-  pub cut : ℕ
-  pub rest : ChoicesMean lists mid cut left ms end
-  pub mean : LiveMean lists start live done mid
-  pub whole : live_meant all ≡ done ++ live_meant ms
+  where
+    pub done : List MeantChoice
+    pub ms : List MeantChoice
+    pub mid : BoundThen
+    pub cut : ℕ
+    pub rest : ChoicesMean lists mid cut left ms end
+    pub mean : LiveMean lists start live done mid
+    pub whole : live_meant all ≡ done ++ live_meant ms
 
 abbrev pub AreLiveUpTo : ℕ → List CapturedChoice → List CapturedChoice → LiveChoices → Type 0
 AreLiveUpTo base all left live = (lists : ItemLists) (start end : BoundThen) (cut : ℕ) (ms : List MeantChoice) → IsStart base start

@@ -37,7 +37,7 @@ module _ (goals : List (List BranchItem)) (base : ℕ) where
 
   pub one_branch : (first : Branch) (all left : List CapturedAlternative) (branches : List Branch) (a : CapturedAlternative) (b : Branch)
       → BranchesUpTo goals base first all (a ∷ left) branches → IsBranchOf goals base a b
-          → BranchesUpTo goals base first all left (branches ++ b ∷ [])
+      → BranchesUpTo goals base first all left (branches ++ b ∷ [])
   one_branch first all left branches a b k h = record {
     done = k.done ++ a ∷ [];
     others = k.others ++ b ∷ [];
@@ -74,8 +74,12 @@ module _ (goals : List (List BranchItem)) where
   pub one_body : (all left : List LiveChoice) (bodies : List Body) (c : LiveChoice) (b : Body) → BodiesUpTo goals all (c ∷ left) bodies
       → IsLeadingBody goals c b
       → BodiesUpTo goals all left (bodies ++ b ∷ [])
-  one_body all left bodies c b k h = record { done = k.done ++ c ∷ []; each = bodies_next k.done bodies c b k.each h; whole = k.whole
-      ∙ sym (append_assoc k.done (c ∷ []) left) }
+  one_body all left bodies c b k h = record {
+    done = k.done ++ c ∷ [];
+    each = bodies_next k.done bodies c b k.each h;
+    whole = k.whole
+        ∙ sym (append_assoc k.done (c ∷ []) left);
+  }
 
   pub all_bodies : (all : List LiveChoice) (bodies : List Body) → BodiesUpTo goals all [] bodies → AreBodiesOf goals all bodies
   all_bodies all bodies k = subst (λ xs. AreBodiesOf goals xs bodies) (sym (append-nil k.done) ∙ sym k.whole) k.each

@@ -68,10 +68,12 @@ module _ (p : Placement) (deferred : List BranchItem) (base : ℕ) (lists : Item
   guard_branch before n cut own (a ∷ (d ∷ taken)) (m ∷ []) branches le one b k e = elim k.1 [ ]
   guard_branch before n cut own (a ∷ []) (m ∷ []) [] le one b k e = elim b [ ]
   guard_branch before n cut own (a ∷ []) (m ∷ []) (x ∷ (y ∷ branches)) le one b k e = elim b.1 [ ]
-  guard_branch before n cut own (a ∷ []) (m ∷ []) (x ∷ []) le one b k e =
-      (branch_means p deferred base lists goals g before n cut a m x (kind_meant own) 1 own (published_entry p deferred own m) le b.0 k.0 e.0
-          e.0.guard
-          (guard_entry p deferred own m), tt)
+  guard_branch before n cut own (a ∷ []) (m ∷ []) (x ∷ []) le one b k e = (
+    branch_means p deferred base lists goals g before n cut a m x (kind_meant own) 1 own (published_entry p deferred own m) le b.0 k.0 e.0
+        e.0.guard
+        (guard_entry p deferred own m),
+    tt,
+  )
 
   pub further_mean : (before : Substitution) (n cut : ℕ) (own : CapturedKind) (taken : List CapturedAlternative) (ms : List MeantAlternative)
       (branches : List Branch) → base ≤ n

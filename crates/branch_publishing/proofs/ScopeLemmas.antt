@@ -113,7 +113,7 @@ a_more (x ∷ g) e = refl
 keeps_more : (next : ℕ) (levels : List Level) (gs : Groups) (n : ℕ) (scopes : List ℕ) (newest number other later : ℕ)
     → KeepsScopes next levels gs n scopes newest number
     → other ≡ scope_kept next levels gs (suc n) → later ≡ next + nodes_in gs (suc n) → KeepsScopes next levels gs (suc n) (scopes ++ other ∷ []) other
-        later
+    later
 keeps_more next levels gs n scopes newest number other later k e f = record {
   many = let m = k.many in omega (arith, m, length-append scopes (other ∷ []));
   each = more_got (λ i s. s ≡ choice_scope next levels gs i) scopes other k.each (e ∙ (sym (over_floor next levels gs n)
@@ -132,9 +132,9 @@ keeps_empty next levels choices gs n c scopes newest number a lt e z k =
     let is : g ≡ get_or gs n g = grind (arith, common_steps) in
     let l = group_of choices gs n c g a lt e is in
     let o : nodes_in gs (suc n) ≡ nodes_in gs n = let h = one_more gs n g (omega (arith, m, lt)) is in let q = no_more g (sym l ∙ z) in omega
-        (arith, h, q) in
+    (arith, h, q) in
     keeps_more next levels gs n scopes newest number newest number k (k.last ∙ ap (newest_node next levels) (sym o))
-        (k.made ∙ ap (λ x. next + x) (sym o))
+    (k.made ∙ ap (λ x. next + x) (sym o))
 
 pub keeps_node : (next : ℕ) (levels : List Level) (choices : List CapturedChoice) (gs : Groups) (n : ℕ) (c : CapturedChoice) (scopes : List ℕ)
     (newest number : ℕ)
@@ -153,8 +153,10 @@ keeps_node next levels choices gs n c scopes newest number a lt e z k =
 pub keeps_all : (next : ℕ) (levels : List Level) (choices : List CapturedChoice) (gs : Groups) (scopes : List ℕ) (newest number : ℕ)
     → AreGroupsOf choices gs
     → KeepsScopes next levels gs (length choices) scopes newest number → AreScopes next levels gs scopes
-keeps_all next levels choices gs scopes newest number a k = record { many = let m = groups_many choices gs a in let n = k.many in omega (arith, m, n);
-    each = k.each }
+keeps_all next levels choices gs scopes newest number a k = record {
+  many = let m = groups_many choices gs a in let n = k.many in omega (arith, m, n);
+  each = k.each;
+}
 
 -- past the last choice point
 past_end : (gs : Groups) (n : ℕ) → length gs ≤ n → take n gs ≡ take (length gs) gs

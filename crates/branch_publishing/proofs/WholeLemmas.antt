@@ -20,8 +20,11 @@ newer_means : (lists : ItemLists) (under mid : BoundThen) (cut : ℕ) (cs : List
     (m : MeantChoice) → ChoicesMean lists under cut cs ms mid
     → CapturesChoice lists mid (cut + length ms) c m → ChoicesMean lists under cut (cs ++ c ∷ []) (ms ++ m ∷ []) m.came
 newer_means lists under mid cut [] [] c m k h =
-    let e : cut + 0 ≡ cut = omega arith in (subst (λ n. CapturesChoice lists under n c m) e
-        (subst (λ u. CapturesChoice lists u (cut + 0) c m) (sym k) h), refl)
+    let e : cut + 0 ≡ cut = omega arith in (
+      subst (λ n. CapturesChoice lists under n c m) e
+          (subst (λ u. CapturesChoice lists u (cut + 0) c m) (sym k) h),
+      refl,
+    )
 newer_means lists under mid cut [] (n ∷ ms) c m k h = elim k [ ]
 newer_means lists under mid cut (d ∷ cs) [] c m k h = elim k [ ]
 newer_means lists under mid cut (d ∷ cs) (n ∷ ms) c m k h =
@@ -84,4 +87,4 @@ module _ (p : Placement) (deferred : List BranchItem) where
   live_groups [] = refl
   live_groups (m ∷ ms) =
       nonempty_first (group m) (map group ms) ∙ one_live_group (published_entry p deferred m.kind) m.alternatives m (live_meant ms)
-          (nonempty_groups (map group ms)) refl (live_groups ms)
+      (nonempty_groups (map group ms)) refl (live_groups ms)

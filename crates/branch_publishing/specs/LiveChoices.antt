@@ -69,4 +69,4 @@ AreLive base choices live = (lists : ItemLists) (start end : BoundThen) (cut : �
 abbrev pub AddsChoice : LiveChoices → CapturedChoice → LiveChoices → Type 0
 AddsChoice before choice live = (lists : ItemLists) (start end : BoundThen) (cut : ℕ) (ms : List MeantChoice) (m : MeantChoice)
     → LiveMean lists start before ms end → CapturesChoice lists end cut choice m → LiveMean lists start live (ms ++ live_before m.alternatives m [])
-        m.came
+    m.came

@@ -76,7 +76,10 @@ EndIn goals branch base (c ∷ (e ∷ choices)) (b ∷ bodies) = IsLeadingBody g
 -- after what leads to it from the newest choice point
 pub record MakeBodies (goals : List (List BranchItem)) (live : LiveChoices) (current : CapturedAlternative) (bodies : List Body) : Type 0 where
   pub branch : Branch
-  pub is : IsBranchOf goals live.since.base (record { first = current.first; bindings = live.since.bindings ++ current.bindings; next = current.next
-      })
+  pub is : IsBranchOf goals live.since.base (record {
+    first = current.first;
+    bindings = live.since.bindings ++ current.bindings;
+    next = current.next;
+  })
       branch
   pub ends : EndIn goals branch live.since.base live.choices.items bodies

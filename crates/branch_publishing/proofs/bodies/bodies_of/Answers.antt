@@ -23,7 +23,7 @@ returns c =
     let body = body_view c.match-innermost-3.body in
     let more : bodies_view c.push.new.self.items ≡ outer ++ body ∷ []
     = ap bodies_view c.in_ok-push.ensures.items ∙ (bodies_snoc c.in_ok-bodies.bodies.items c.in_ok-new.field-0
-        ∙ ap (λ (b : NodeBody). outer ++ body_view b ∷ []) c.in_ok-new.ensures.ok) in
+    ∙ ap (λ (b : NodeBody). outer ++ body_view b ∷ []) c.in_ok-new.ensures.ok) in
     record {
       branch = branch;
       is = subst (λ (bs : List Binding). IsBranchOf g base (record { first = c.args.current.first; bindings = bs; next = c.args.current.next })
@@ -37,11 +37,11 @@ returns c =
                 (subst (λ (b : NodeBody). IsBodyOf g w.in-Some.choice branch (body_view b)) (sym w.body-is) w.in_ok-body-in-Some.ensures))
             | in-None+in_ok-body-in-None w ↦
                 let all : c.args.live.choices.items ≡ c.pop-innermost.new.self.items = w.in-None.ensures.items
-                    ∙ append-nil c.pop-innermost.new.self.items in
+                ∙ append-nil c.pop-innermost.new.self.items in
                 let gone : length c.pop-innermost.new.self.items ≡ 0 = let h = w.in-None.ensures.cases in grind (arith, common_steps) in
                 subst (λ (xs : List LiveChoice). EndIn g branch base xs (outer ++ body ∷ [])) (sym all)
                 (alone_end g branch base c.pop-innermost.new.self.items outer body (none_there c.pop-innermost.new.self.items gone)
-                    c.in_ok-bodies.ensures
+                c.in_ok-bodies.ensures
                 (subst (λ (b : NodeBody). IsAloneBody base branch (body_view b)) (sym w.body-is) w.in_ok-body-in-None.ensures))
           ]);
     }

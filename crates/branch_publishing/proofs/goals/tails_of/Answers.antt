@@ -15,7 +15,7 @@ loop-left-preserved c =
     let t = c.loop-left.tails.items in
     let more : c.push.new.self.items ≡ t ++ c.loop-left.left ∷ [] = c.in_ok-push.ensures.items in
     let long : length c.push.new.self.items ≡ length t + 1 = ap (λ (xs : List (List Item)). length xs) more
-        ∙ length-append t (c.loop-left.left ∷ []) in
+    ∙ length-append t (c.loop-left.left ∷ []) in
     let left : c.loop-left.left ≡ drop (length t) g = c.loop-left.invariant.left in
     let some : 0 < length c.loop-left.left = search rules in
     let behind : length t < length g = some_left (length t) g (subst (λ (xs : List Item). 0 < length xs) left some) in
@@ -33,7 +33,7 @@ returns c =
     let t = c.loop-left.tails.items in
     let more : c.push-2.new.self.items ≡ t ++ c.loop-left.left ∷ [] = c.in_ok-push-2.ensures.items in
     let long : length c.push-2.new.self.items ≡ length t + 1 = ap (λ (xs : List (List Item)). length xs) more
-        ∙ length-append t (c.loop-left.left ∷ []) in
+    ∙ length-append t (c.loop-left.left ∷ []) in
     let left : c.loop-left.left ≡ drop (length t) g = c.loop-left.invariant.left in
     let none : c.loop-left.left ≡ [] = none_first c.loop-left.left c.first.result (sym c.is_some.ensures ∙ c.loop-left-test.false) c.first.ensures in
     let behind : length g ≤ length t = none_left (length t) g (sym left ∙ none) in

@@ -22,10 +22,10 @@ returns c p start current choices s d t =
     = subst (λ (xs : List (List Item)). AreTailsOf deferred xs) (sym c.deref-3.ensures.value) c.in_ok-tails.ensures in
     let goals : AreGoalsOf captured.items (scope_at scopes) deferred lists
     = subst (λ (xs : List ℕ). AreGoalsOf captured.items (scope_at xs) deferred lists) c.deref-2.ensures.value
-        (c.in_ok-lists.ensures.goals deferred tails) in
+    (c.in_ok-lists.ensures.goals deferred tails) in
     let made : MakeBodies lists c.in_ok-live.live captured.current (bodies_view c.in_ok-bodies.bodies.items)
     = subst (λ (xs : List (List Item)). MakeBodies xs c.in_ok-live.live captured.current (bodies_view c.in_ok-bodies.bodies.items))
-        c.deref-4.ensures.value c.in_ok-bodies.ensures in
+    c.deref-4.ensures.value c.in_ok-bodies.ensures in
     run_means p deferred c.args.base c.args.next c.args.branch.now captured start current choices oldest scopes lists c.in_ok-live.live
-        (bodies_view c.in_ok-bodies.bodies.items)
+    (bodies_view c.in_ok-bodies.bodies.items)
     turned s d t kept c.in_ok-lists.ensures.all goals c.in_ok-live.ensures made

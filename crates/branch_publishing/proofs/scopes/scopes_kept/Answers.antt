@@ -14,7 +14,7 @@ loop-choice-init c =
       some = let l = ap (λ (xs : List ℕ). length xs) made in omega (arith, l);
       kept = λ levels gs d a. subst (λ scopes. KeepsScopes c.args.next levels gs 0 scopes c.index-newest.result.now c.args.next) (sym made)
           (keeps_none c.args.next levels gs c.args.branch.now c.index-newest.result.now d
-              (first ∙ got_same (0 ∷ c.args.branch.now) (length c.args.branch.now) c.index-newest.result.now 0 (omega arith)));
+          (first ∙ got_same (0 ∷ c.args.branch.now) (length c.args.branch.now) c.index-newest.result.now 0 (omega arith)));
     }
 
 pub loop-choice-preserved : goal.loop-choice-preserved
@@ -24,8 +24,12 @@ loop-choice-preserved c =
     let same : suc i ≡ i + 1 = omega arith in
     let more : c.push-in-loop-choice.new.self.items ≡ c.loop-choice.scopes.items ++ c.if-not-is_empty.newest ∷ [] = c.in_ok-push-2.ensures.items in
     record {
-      some = let l = ap (λ (xs : List ℕ). length xs) more in omega (arith, l, length-append c.loop-choice.scopes.items
-          (c.if-not-is_empty.newest ∷ []));
+      some = let l = ap (λ (xs : List ℕ). length xs) more in omega (
+        arith,
+        l,
+        length-append c.loop-choice.scopes.items
+            (c.if-not-is_empty.newest ∷ []),
+      );
       kept = λ levels gs d a.
           let before = c.loop-choice.invariant.kept levels gs d a in
           subst (λ n. KeepsScopes c.args.next levels gs n c.push-in-loop-choice.new.self.items c.if-not-is_empty.newest c.if-not-is_empty.number) same
@@ -36,33 +40,33 @@ loop-choice-preserved c =
                 let some : 0 < length choice.alternatives.items = grind (arith, nat_tests, common_steps) in
                 let later : c.if-not-is_empty.number ≡ c.loop-choice.number + 1 = w.number-is ∙ w.in-Some.ensures.1 in
                 subst (λ x. KeepsScopes c.args.next levels gs (suc i) (c.loop-choice.scopes.items ++ x ∷ []) x c.if-not-is_empty.number)
-                    (sym w.newest-is)
+                (sym w.newest-is)
                 (subst (λ x. KeepsScopes c.args.next levels gs (suc i) (c.loop-choice.scopes.items ++ c.loop-choice.number ∷ []) c.loop-choice.number
-                    x)
-                    (sym later)
+                x)
+                (sym later)
                 (keeps_node c.args.next levels c.args.choices.now gs i choice c.loop-choice.scopes.items c.loop-choice.newest c.loop-choice.number a
-                    c.loop-choice-test.true c.choice-item.is some before)))
+                c.loop-choice-test.true c.choice-item.is some before)))
             | else-not-is_empty w ↦
                 (let test : (choice.alternatives.len == 0) ≡ true = sym w.if-not-is_empty.ensures in
                 let none : length choice.alternatives.items ≡ 0 = grind (arith, nat_tests, common_steps) in
                 subst (λ x. KeepsScopes c.args.next levels gs (suc i) (c.loop-choice.scopes.items ++ x ∷ []) x c.if-not-is_empty.number)
-                    (sym w.newest-is)
+                (sym w.newest-is)
                 (subst (λ x. KeepsScopes c.args.next levels gs (suc i) (c.loop-choice.scopes.items ++ c.loop-choice.newest ∷ []) c.loop-choice.newest
-                    x)
-                    (sym w.number-is)
+                x)
+                (sym w.number-is)
                 (keeps_empty c.args.next levels c.args.choices.now gs i choice c.loop-choice.scopes.items c.loop-choice.newest c.loop-choice.number a
-                    c.loop-choice-test.true c.choice-item.is none before)))
+                c.loop-choice-test.true c.choice-item.is none before)))
           ]));
     }
 
 pub returns : goal.returns
 returns c =
     let end : c.loop-choice.choice-index ≡ length c.args.choices.now = let h = c.loop-choice-test.false in let
-        t = c.loop-choice.auto.choice-index-end in omega (arith, h, t) in
+    t = c.loop-choice.auto.choice-index-end in omega (arith, h, t) in
     record {
       some = c.loop-choice.invariant.some;
       kept = λ levels gs d a. keeps_all c.args.next levels c.args.choices.now gs c.loop-choice.scopes.items c.loop-choice.newest c.loop-choice.number
           a
           (subst (λ n. KeepsScopes c.args.next levels gs n c.loop-choice.scopes.items c.loop-choice.newest c.loop-choice.number) end
-              (c.loop-choice.invariant.kept levels gs d a));
+          (c.loop-choice.invariant.kept levels gs d a));
     }
