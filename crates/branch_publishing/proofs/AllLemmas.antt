@@ -14,7 +14,7 @@ use Rattle.branch_shapes.proofs.MeantBodyLemmas.{meant_bodies_show}
 use Rattle.region_capture.specs.CapturedItems.{ItemLists}
 use Rattle.region_capture.specs.CapturedChoices.{BoundThen, MeantChoice}
 use Rattle.branch_publishing.specs.declared.steps.LiveChoice.{LiveChoice}
-use Rattle.branch_publishing.specs.LiveChoices.{MeanLive, IsStart}
+use Rattle.branch_publishing.specs.LiveChoices.{MeanLive, IsBoundAtStart}
 use Rattle.branch_publishing.specs.MadeBodies.{IsAloneBody, EndIn}
 use Rattle.branch_publishing.specs.PublishedRuns.{published_group}
 use Rattle.branch_publishing.proofs.BranchMeaningLemmas.{GoalsAre}
@@ -24,7 +24,7 @@ module _ (p : Placement) (deferred : List BranchItem) (base : ℕ) (lists : Item
     (g : GoalsAre p deferred base lists goals)
     (branch : Branch) (from : ℕ) (e : Entry) (newest : BoundThen) (top : (kind : BodyKind) → GoalsMean p newest.bound newest.next kind 0 branch e)
     (there : from ≡ newest.next) where
-  alone_shows : (start : BoundThen) (b : Body) → IsStart base start → start ≡ newest → IsAloneBody from branch b
+  alone_shows : (start : BoundThen) (b : Body) → IsBoundAtStart base start → start ≡ newest → IsAloneBody from branch b
       → AllShow (BranchMeans p) e start.next start.bound (b ∷ []) ([] ∷ [])
   alone_shows start b s r i =
       let same : from ≡ start.next = there ∙ ap (λ (t : BoundThen). t.next) (sym r) in
@@ -50,7 +50,7 @@ module _ (p : Placement) (deferred : List BranchItem) (base : ℕ) (lists : Item
         ),
       )
 
-  pub all_show : (start : BoundThen) (choices : List LiveChoice) (ms : List MeantChoice) (bodies : List Body) → IsStart base start
+  pub all_show : (start : BoundThen) (choices : List LiveChoice) (ms : List MeantChoice) (bodies : List Body) → IsBoundAtStart base start
       → EndIn goals branch from choices bodies
       → MeanLive lists start choices ms newest → Each (CanBeBody p) ms → AllShow (BranchMeans p) e start.next start.bound bodies
       (or_alone (map (published_group p deferred) ms))

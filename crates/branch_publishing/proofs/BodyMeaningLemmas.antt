@@ -16,7 +16,7 @@ use Rattle.region_capture.specs.declared.captured.CapturedKind.{CapturedKind}
 use Rattle.region_capture.specs.declared.captured.CapturedKind.TheVariants.{Choice, Catch, Findall}
 use Rattle.branch_publishing.specs.declared.steps.LiveChoice.{LiveChoice}
 use Rattle.branch_publishing.specs.LiveChoices.{MeansLive}
-use Rattle.branch_publishing.specs.MadeBodies.{kind_meant, AreBranchesOf, IsBodyOf}
+use Rattle.branch_publishing.specs.MadeBodies.{published_kind, AreBranchesOf, IsBodyOf}
 use Rattle.branch_publishing.specs.PublishedRuns.{CanBeBranch, published_group, published_entry}
 use Rattle.branch_publishing.proofs.BranchMeaningLemmas.{GoalsAre}
 use Rattle.branch_publishing.proofs.RunLemmas.{further_mean}
@@ -25,12 +25,12 @@ pub many_mapped : {A B : Type 0} (f : A → B) (xs : List A) → length (map f x
 many_mapped f [] = refl
 many_mapped f (x ∷ xs) = ap suc (many_mapped f xs)
 
-no_query : (own : CapturedKind) → IsNoQuery (kind_meant own)
+no_query : (own : CapturedKind) → IsNoQuery (published_kind own)
 no_query Choice = tt
 no_query (Catch catcher recovery) = tt
 no_query (Findall list results) = tt
 
-guard_alone : (own : CapturedKind) (n : ℕ) → IsAloneOf own n → guards_kind (kind_meant own) ≡ true → n ≡ 1
+guard_alone : (own : CapturedKind) (n : ℕ) → IsAloneOf own n → guards_kind (published_kind own) ≡ true → n ≡ 1
 guard_alone Choice n a e = absurd cc
 guard_alone (Catch catcher recovery) n a e = a
 guard_alone (Findall list results) n a e = a
@@ -55,7 +55,7 @@ pub body_means : (p : Placement) (deferred : List BranchItem) (base : ℕ) (list
     → MeansLive lists under c m
     → Each (CanBeBranch p m.kind) m.alternatives → BodyMeans p under.next under.bound m.came.bound b (published_group p deferred m)
 body_means p deferred base lists goals g under c m first b le i k can =
-    let is : b.kind ≡ kind_meant m.kind = i.kind ∙ ap kind_meant k.kind in
+    let is : b.kind ≡ published_kind m.kind = i.kind ∙ ap published_kind k.kind in
     let end : number_after b.segment ≡ m.came.next = ap number_after i.segment ∙ segment_end lists under c m k in
     record {
       no_query = subst IsNoQuery (sym is) (no_query m.kind);

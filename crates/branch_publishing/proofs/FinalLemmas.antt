@@ -25,7 +25,7 @@ use Rattle.branch_publishing.specs.declared.steps.LiveChoice.{LiveChoice}
 use Rattle.branch_publishing.specs.declared.steps.LiveChoices.{LiveChoices}
 use Rattle.branch_publishing.specs.KeptScopes.{AreScopesOf, AreGroupsOf, scope_at}
 use Rattle.branch_publishing.specs.BranchGoals.{AreGoalsOf}
-use Rattle.branch_publishing.specs.LiveChoices.{ChoicesMean, MeanLive, LiveMean, IsStart, AreLive, live_meant, live_before}
+use Rattle.branch_publishing.specs.LiveChoices.{ChoicesMean, MeanLive, LiveMean, IsBoundAtStart, AreLive, live_meant, live_before}
 use Rattle.branch_publishing.specs.MadeBodies.{IsBranchOf, MakeBodies}
 use Rattle.branch_publishing.specs.PublishedRuns.{IsDeferredAt, IsTakenOff, published_entry, published_group}
 use Rattle.branch_publishing.proofs.ScopeLemmas.{scope_is}
@@ -77,7 +77,7 @@ goes_on_there lists start end cut live ms a m l k = record {
 pub run_means : (p : Placement) (deferred : List BranchItem) (base next : ℕ) (branch : List ℕ) (c : Captured) (start : BoundThen)
     (current : MeantAlternative) (choices : List MeantChoice)
     (oldest : List CapturedChoice) (scopes : List ℕ) (goals : List (List BranchItem)) (live : LiveChoices) (bodies : List Body)
-    → oldest ≡ reverse c.choices.items → IsStart base start → IsDeferredAt p deferred base branch next → IsTakenOff p deferred start c current choices
+    → oldest ≡ reverse c.choices.items → IsBoundAtStart base start → IsDeferredAt p deferred base branch next → IsTakenOff p deferred start c current choices
     → AreScopesOf branch oldest next scopes → length goals ≡ length c.items → AreGoalsOf c.items (scope_at scopes) deferred goals
     → AreLive base oldest live → MakeBodies goals live c.current bodies
     → MeanRun p base start.bound bodies (published_entry p deferred Choice current)

@@ -13,7 +13,7 @@ use Rattle.region_capture.specs.declared.captured.CapturedChoice.{CapturedChoice
 use Rattle.branch_publishing.specs.declared.steps.Lead.{Lead}
 use Rattle.branch_publishing.specs.declared.steps.LiveChoice.{LiveChoice}
 use Rattle.branch_publishing.specs.declared.steps.LiveChoices.{LiveChoices}
-use Rattle.branch_publishing.specs.LiveChoices.{ChoicesMean, live_before, live_meant, LeadsFrom, MeansLive, MeanLive, LiveMean, IsStart, AreLive, AddsChoice}
+use Rattle.branch_publishing.specs.LiveChoices.{ChoicesMean, live_before, live_meant, LeadsFrom, MeansLive, MeanLive, LiveMean, IsBoundAtStart, AreLive, AddsLiveChoice}
 
 -- bindings after others
 pub joined_lead : (lead : Lead) (newest under now : BoundThen) (bs all : List Binding) → StandsForOlder newest.bound → LeadsFrom lead newest under
@@ -68,7 +68,7 @@ below_of lists under cut c m k = (
 -- one with no alternative
 pub adds_empty : (before live : LiveChoices) (c : CapturedChoice) → length c.alternatives.items ≡ 0 → live.choices ≡ before.choices
     → live.since.base ≡ before.since.base
-    → before.since.bindings ++ c.below ≡ live.since.bindings → AddsChoice before c live
+    → before.since.bindings ++ c.below ≡ live.since.bindings → AddsLiveChoice before c live
 adds_empty before live c none same base joined lists start end cut ms m k h =
     let e = below_of lists end cut c m h in
     let j = joined_lead before.since k.newest end m.came c.below live.since.bindings k.older k.since e.0 e.1 joined live.since.base base in
@@ -87,7 +87,7 @@ pub adds_live : (before live : LiveChoices) (c : CapturedChoice) (l : LiveChoice
     → live.choices.items ≡ before.choices.items ++ l ∷ []
     → l.kind ≡ c.kind → l.next ≡ c.next → l.alternatives ≡ c.alternatives → l.lead.base ≡ before.since.base
     → before.since.bindings ++ c.below ≡ l.lead.bindings
-    → live.since.base ≡ c.next → live.since.bindings ≡ [] → AddsChoice before c live
+    → live.since.base ≡ c.next → live.since.bindings ≡ [] → AddsLiveChoice before c live
 adds_live before live c l some more kind next alternatives base joined from none lists start end cut ms m k h =
     let e = below_of lists end cut c m h in
     let j = joined_lead before.since k.newest end m.came c.below l.lead.bindings k.older k.since e.0 e.1 joined l.lead.base base in
@@ -131,7 +131,7 @@ pub record LiveUpTo (lists : ItemLists) (start end : BoundThen) (left : List Cap
     pub whole : live_meant all ≡ done ++ live_meant ms
 
 abbrev pub AreLiveUpTo : ℕ → List CapturedChoice → List CapturedChoice → LiveChoices → Type 0
-AreLiveUpTo base all left live = (lists : ItemLists) (start end : BoundThen) (cut : ℕ) (ms : List MeantChoice) → IsStart base start
+AreLiveUpTo base all left live = (lists : ItemLists) (start end : BoundThen) (cut : ℕ) (ms : List MeantChoice) → IsBoundAtStart base start
     → ChoicesMean lists start cut all ms end → LiveUpTo lists start end left ms live
 
 pub none_live : (base : ℕ) (all : List CapturedChoice) (live : LiveChoices) → live.choices.items ≡ [] → live.since.base ≡ base
@@ -161,7 +161,7 @@ live_split m [] ms = refl
 live_split m (a ∷ xs) ms = refl
 
 pub one_live : (base : ℕ) (all left : List CapturedChoice) (c : CapturedChoice) (before live : LiveChoices) → AreLiveUpTo base all (c ∷ left) before
-    → AddsChoice before c live
+    → AddsLiveChoice before c live
     → AreLiveUpTo base all left live
 one_live base all left c before live k h lists start end cut ms s g = with_one (k lists start end cut ms s g)
   where

@@ -16,7 +16,7 @@ use Rattle.region_capture.specs.declared.captured.CapturedAlternative.{CapturedA
 use Rattle.region_capture.specs.declared.captured.CapturedKind.{CapturedKind}
 use Rattle.region_capture.specs.declared.captured.CapturedKind.TheVariants.{Choice, Catch, Findall}
 use Rattle.region_capture.specs.CapturedChoices.{IsAloneOf}
-use Rattle.branch_publishing.specs.MadeBodies.{kind_meant, AreBranchesOf}
+use Rattle.branch_publishing.specs.MadeBodies.{published_kind, AreBranchesOf}
 use Rattle.branch_publishing.specs.PublishedRuns.{published_continuation, published_entry, CanBeBranch}
 use Rattle.branch_publishing.proofs.BranchMeaningLemmas.{GoalsAre, branch_means}
 
@@ -33,7 +33,7 @@ always true = refl
 always false = refl
 
 guard_entry : (p : Placement) (deferred : List BranchItem) (own : CapturedKind) (m : MeantAlternative)
-    → published_entry p deferred own m ≡ guard_meant (kind_meant own) m.bound (published_continuation p deferred m)
+    → published_entry p deferred own m ≡ guard_meant (published_kind own) m.bound (published_continuation p deferred m)
 guard_entry p deferred Choice m = refl
 guard_entry p deferred (Catch catcher recovery) m = refl
 guard_entry p deferred (Findall list results) m = refl
@@ -61,7 +61,7 @@ module _ (p : Placement) (deferred : List BranchItem) (base : ℕ) (lists : Item
   guard_branch : (before : Substitution) (n cut : ℕ) (own : CapturedKind) (taken : List CapturedAlternative) (ms : List MeantAlternative)
       (branches : List Branch) → base ≤ n
       → length ms ≡ 1 → AreBranchesOf goals n taken branches → AreMeant lists before n cut taken ms → Each (CanBeBranch p own) ms
-      → AlternativesMean p before n (kind_meant own) 1 branches (map (published_entry p deferred own) ms)
+      → AlternativesMean p before n (published_kind own) 1 branches (map (published_entry p deferred own) ms)
   guard_branch before n cut own taken [] branches le one b k e = absurd (omega (arith, one))
   guard_branch before n cut own taken (m ∷ (o ∷ ms)) branches le one b k e = absurd (omega (arith, one))
   guard_branch before n cut own [] (m ∷ []) branches le one b k e = elim k [ ]
@@ -69,7 +69,7 @@ module _ (p : Placement) (deferred : List BranchItem) (base : ℕ) (lists : Item
   guard_branch before n cut own (a ∷ []) (m ∷ []) [] le one b k e = elim b [ ]
   guard_branch before n cut own (a ∷ []) (m ∷ []) (x ∷ (y ∷ branches)) le one b k e = elim b.1 [ ]
   guard_branch before n cut own (a ∷ []) (m ∷ []) (x ∷ []) le one b k e = (
-    branch_means p deferred base lists goals g before n cut a m x (kind_meant own) 1 own (published_entry p deferred own m) le b.0 k.0 e.0
+    branch_means p deferred base lists goals g before n cut a m x (published_kind own) 1 own (published_entry p deferred own m) le b.0 k.0 e.0
         e.0.guard
         (guard_entry p deferred own m),
     tt,
@@ -78,7 +78,7 @@ module _ (p : Placement) (deferred : List BranchItem) (base : ℕ) (lists : Item
   pub further_mean : (before : Substitution) (n cut : ℕ) (own : CapturedKind) (taken : List CapturedAlternative) (ms : List MeantAlternative)
       (branches : List Branch) → base ≤ n
       → IsAloneOf own (length ms) → AreBranchesOf goals n taken branches → AreMeant lists before n cut taken ms → Each (CanBeBranch p own) ms
-      → AlternativesMean p before n (kind_meant own) 1 branches (map (published_entry p deferred own) ms)
+      → AlternativesMean p before n (published_kind own) 1 branches (map (published_entry p deferred own) ms)
   further_mean before n cut Choice taken ms branches le one b k e = choice_branches before n cut 1 taken ms branches le b k e
   further_mean before n cut (Catch catcher recovery) taken ms branches le one b k e = guard_branch before n cut (Catch catcher recovery) taken ms
       branches le one b k e

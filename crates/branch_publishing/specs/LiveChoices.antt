@@ -55,18 +55,18 @@ pub record LiveMean (lists : ItemLists) (under : BoundThen) (live : LiveChoices)
   pub older : StandsForOlder newest.bound
 
 -- what was bound at the start has all of its bindings applied, and gives no variable a younger one
-pub record IsStart (base : ℕ) (start : BoundThen) : Type 0 where
+pub record IsBoundAtStart (base : ℕ) (start : BoundThen) : Type 0 where
   pub number : start.next ≡ base
   pub older : StandsForOlder start.bound
   pub applied : IsFinal start.bound
 
 -- whatever choice points mean, those with alternatives mean the same
 abbrev pub AreLive : ℕ → List CapturedChoice → LiveChoices → Type 0
-AreLive base choices live = (lists : ItemLists) (start end : BoundThen) (cut : ℕ) (ms : List MeantChoice) → IsStart base start
+AreLive base choices live = (lists : ItemLists) (start end : BoundThen) (cut : ℕ) (ms : List MeantChoice) → IsBoundAtStart base start
     → ChoicesMean lists start cut choices ms end → LiveMean lists start live (live_meant ms) end
 
 -- with one more
-abbrev pub AddsChoice : LiveChoices → CapturedChoice → LiveChoices → Type 0
-AddsChoice before choice live = (lists : ItemLists) (start end : BoundThen) (cut : ℕ) (ms : List MeantChoice) (m : MeantChoice)
+abbrev pub AddsLiveChoice : LiveChoices → CapturedChoice → LiveChoices → Type 0
+AddsLiveChoice before choice live = (lists : ItemLists) (start end : BoundThen) (cut : ℕ) (ms : List MeantChoice) (m : MeantChoice)
     → LiveMean lists start before ms end → CapturesChoice lists end cut choice m → LiveMean lists start live (ms ++ live_before m.alternatives m [])
     m.came

@@ -9,10 +9,10 @@ use Rattle.region_capture.specs.declared.captured.CapturedKind.TheVariants.{Choi
 use Rattle.branch_publishing.specs.declared.steps.LiveChoice.{LiveChoice}
 use Rattle.branch_publishing.specs.declared.steps.LiveChoices.{LiveChoices}
 
-abbrev pub kind_meant : CapturedKind → BodyKind
-kind_meant Choice = ChoiceBody
-kind_meant (Catch catcher recovery) = CatchBody catcher recovery
-kind_meant (Findall list results) = FindallBody results.items list
+abbrev pub published_kind : CapturedKind → BodyKind
+published_kind Choice = ChoiceBody
+published_kind (Catch catcher recovery) = CatchBody catcher recovery
+published_kind (Findall list results) = FindallBody results.items list
 
 -- a branch with the goals of an alternative, from a next number on
 pub record IsBranchOf (goals : List (List BranchItem)) (base : ℕ) (a : CapturedAlternative) (b : Branch) : Type 0 where
@@ -36,7 +36,7 @@ pub record MakesBranches (goals : List (List BranchItem)) (base : ℕ) (first : 
 
 -- a choice point as a body
 pub record IsBodyOf (goals : List (List BranchItem)) (c : LiveChoice) (first : Branch) (b : Body) : Type 0 where
-  pub kind : b.kind ≡ kind_meant c.kind
+  pub kind : b.kind ≡ published_kind c.kind
   pub segment : b.segment ≡ record { base = c.lead.base; vars = c.next - c.lead.base; bindings = c.lead.bindings }
   pub made : MakesBranches goals c.next first c.alternatives.items b.branches
 

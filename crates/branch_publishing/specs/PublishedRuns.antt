@@ -20,8 +20,8 @@ use Rattle.region_capture.specs.declared.captured.Captured.{Captured}
 use Rattle.region_capture.specs.declared.captured.CapturedKind.{CapturedKind}
 use Rattle.region_capture.specs.declared.captured.CapturedKind.TheVariants.{Choice, Catch, Findall}
 use Rattle.branch_publishing.specs.KeptScopes.{AreNodesDown}
-use Rattle.branch_publishing.specs.LiveChoices.{IsStart}
-use Rattle.branch_publishing.specs.MadeBodies.{kind_meant}
+use Rattle.branch_publishing.specs.LiveChoices.{IsBoundAtStart}
+use Rattle.branch_publishing.specs.MadeBodies.{published_kind}
 
 -- the items of an alternative, with those that were deferred in the place of what stands for them
 abbrev pub items_left : Placement → List BranchItem → MeantAlternative → List (Item ℕ)
@@ -53,7 +53,7 @@ EndsDeferred (RemovalItem number ∷ items) = items ≡ []
 pub record CanBeBranch (p : Placement) (kind : CapturedKind) (a : MeantAlternative) : Type 0 where
   pub last : EndsDeferred a.items
   pub over : Each (IsOverChoices (floor_in p) p.groups) a.items
-  pub guard : is_guard_settled a.next (kind_meant kind) ≡ true
+  pub guard : is_guard_settled a.next (published_kind kind) ≡ true
 
 -- what an alternative of the tree had left, and the numbers of the nodes on its branch
 pub record IsDeferredAt (p : Placement) (deferred : List BranchItem) (base : ℕ) (branch : List ℕ) (next : ℕ) : Type 0 where
@@ -75,5 +75,5 @@ pub record IsTakenOff (p : Placement) (deferred : List BranchItem) (start : Boun
 -- bodies mean it, wherever it is put
 abbrev pub MeanPublished : Captured → List BranchItem → ℕ → List ℕ → ℕ → List Body → Type 0
 MeanPublished c deferred base branch next bodies = (p : Placement) (start : BoundThen) (current : MeantAlternative) (choices : List MeantChoice)
-    → IsStart base start → IsDeferredAt p deferred base branch next → IsTakenOff p deferred start c current choices
+    → IsBoundAtStart base start → IsDeferredAt p deferred base branch next → IsTakenOff p deferred start c current choices
     → MeanRun p base start.bound bodies (published_entry p deferred Choice current)

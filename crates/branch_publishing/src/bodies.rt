@@ -3,7 +3,7 @@ ghost use Rattle.std.specs.Prelude.{◌≡◌, ◌∷◌, [], IfOk};
 ghost use Rattle.std.specs.Arc.{arc_value};
 ghost use Rattle.tree_nodes.specs.Bodies.{body_view, kind_view};
 ghost use Rattle.public_tree.specs.Publishing.{bodies_view};
-ghost use Rattle.branch_publishing.specs.MadeBodies.{IsBodyOf, IsLeading, AreBodiesOf, IsAloneBody, MakeBodies, kind_meant};
+ghost use Rattle.branch_publishing.specs.MadeBodies.{IsBodyOf, IsLeading, AreBodiesOf, IsAloneBody, MakeBodies, published_kind};
 
 use crate::branches::{branch_of, branches_of};
 use crate::steps::{Lead, LiveChoice, LiveChoices, joined};
@@ -123,7 +123,7 @@ fn empty_segment(alloc: Global, base: VarNo) -> Segment
 }
 
 fn kind_of(kind: CapturedKind) -> NodeKind
-    ensures { kind_view result ≡ kind_meant kind }
+    ensures { kind_view result ≡ published_kind kind }
 {
     match kind {
         CapturedKind::Choice => NodeKind::Choice,

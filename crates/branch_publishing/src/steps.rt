@@ -1,6 +1,6 @@
 //! The choice points that become nodes: those that have alternatives left.
 ghost use Rattle.std.specs.Prelude.{◌≡◌, ◌++◌, IfOk};
-ghost use Rattle.branch_publishing.specs.LiveChoices.{AreLive, AddsChoice};
+ghost use Rattle.branch_publishing.specs.LiveChoices.{AreLive, AddsLiveChoice};
 
 use au_term::{Binding, Bindings, NoMemory, VarNo};
 use region_capture::{CapturedAlternative, CapturedChoice, CapturedKind};
@@ -57,7 +57,7 @@ fn with_choice(
     before: LiveChoices,
     choice: CapturedChoice,
 ) -> Result<LiveChoices, NoMemory>
-    ensures { IfOk result (AddsChoice before choice) }
+    ensures { IfOk result (AddsLiveChoice before choice) }
 {
     let LiveChoices { choices, since } = before;
     let CapturedChoice {
