@@ -24,7 +24,8 @@ use Rattle.region_capture.specs.declared.captured.CapturedKind.{CapturedKind}
 use Rattle.branch_publishing.specs.BranchGoals.{branch_goals, AreGoalsOf}
 use Rattle.branch_publishing.specs.MadeBodies.{IsBranchOf}
 use Rattle.branch_publishing.specs.PublishedRuns.{items_left, published_continuation, CanBeBranch}
-use Rattle.branch_publishing.proofs.GoalLemmas.{and_both, goals_meant, goals_settled, joined_over}
+use Rattle.au_term.proofs.LogicLemmas.{and-both}
+use Rattle.branch_publishing.proofs.GoalLemmas.{goals_meant, goals_settled, joined_over}
 
 -- goals for the numbers of items, wherever they are put
 pub record GoalsAre (p : Placement) (deferred : List BranchItem) (base : ℕ) (lists : ItemLists) (goals : List (List BranchItem)) : Type 0 where
@@ -60,7 +61,7 @@ module _ (p : Placement) (deferred : List BranchItem) (base : ℕ) (lists : Item
           extends = subst (λ x. ExtendsBy before m.bound x (captured_bindings b.segment.bindings)) (sym last)
               (subst (λ (bs : List Binding). ExtendsBy before m.bound a.next (captured_bindings bs)) (sym k.bindings) h.extends);
         };
-        below = and_both (list_all (is_item_settled (number_after b.segment)) b.goals)
+        below = and-both (list_all (is_item_settled (number_after b.segment)) b.goals)
             (cond (i == 1) (is_guard_settled (number_after b.segment) kind) true)
             (subst (λ x. list_all (is_item_settled x) b.goals ≡ true) (sym last)
             (subst (λ (xs : List BranchItem). list_all (is_item_settled a.next) xs ≡ true) (sym mine)

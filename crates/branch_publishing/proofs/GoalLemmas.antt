@@ -1,10 +1,11 @@
 -- What the goals of a branch mean: the items of an alternative, with those that were deferred.
-use Rattle.std.proofs.Common.{◌≡◌, ℕ, zero, suc, ◌≤◌, nat_le, Bool, true, false, ◌&&◌, List, [], ◌∷◌, ◌++◌, append-nil, drop, refl, sym, ap, ap₂, ◌∙◌, arith}
+use Rattle.std.proofs.Common.{◌≡◌, ℕ, zero, suc, ◌≤◌, nat_le, true, List, [], ◌∷◌, ◌++◌, append-nil, drop, refl, sym, ap, ap₂, ◌∙◌, arith}
 use Rattle.std.proofs.lemmas.Bool.Decides.{nat_tests}
 use Rattle.std.proofs.lemmas.List.{drop-map}
 use Rattle.std.specs.List.{list_all}
 use Rattle.au_model.specs.Terms.Each.{Each}
-use Rattle.au_model.proofs.EachLemmas.{each-append}
+use Rattle.au_term.proofs.LogicLemmas.{and-both, and-left, and-right, le_by}
+use Rattle.au_model.proofs.EachLemmas.{each-append, each-drop}
 use Rattle.run_model.specs.Machine.Items.{Item, GoalItem, CatchMark, CollectMark, RemovalItem}
 use Rattle.clause_compile.specs.declared.item.Item.{Item as BranchItem}
 use Rattle.clause_compile.specs.declared.item.Item.TheVariants.{Goal, CatchEnd, Collect, Remove, End}
@@ -20,46 +21,31 @@ use Rattle.region_capture.specs.CapturedItems.{IsItemOver}
 use Rattle.branch_publishing.specs.BranchGoals.{branch_goals}
 use Rattle.branch_publishing.specs.PublishedRuns.{EndsDeferred}
 
-pub and_both : (a b : Bool) → a ≡ true → b ≡ true → (a && b) ≡ true
-and_both true b p q = q
-and_both false b p q = p
-
-and_left : (a b : Bool) → (a && b) ≡ true → a ≡ true
-and_left true b p = refl
-and_left false b p = p
-
-and_right : (a b : Bool) → (a && b) ≡ true → b ≡ true
-and_right true b p = p
-and_right false b p = absurd cc
-
 le_test : (a b : ℕ) → a ≤ b → nat_le a b ≡ true
 le_test a b le = grind (arith, nat_tests)
-
-test_le : (a b : ℕ) → nat_le a b ≡ true → a ≤ b
-test_le a b t = grind (arith, nat_tests)
 
 -- what is left of settled goals
 drop_meant : (base k : ℕ) (xs : List BranchItem) → list_all (is_item_settled base) xs ≡ true → drop k (items_meant xs) ≡ items_meant (drop k xs)
 drop_meant base zero [] s = refl
 drop_meant base zero (x ∷ xs) s = refl
 drop_meant base (suc k) [] s = refl
-drop_meant base (suc k) (Goal t c ∷ xs) s = drop_meant base k xs (and_right (is_item_settled base (Goal t c)) (list_all (is_item_settled base) xs) s)
-drop_meant base (suc k) (CatchEnd c ∷ xs) s = drop_meant base k xs (and_right (is_item_settled base (CatchEnd c)) (list_all (is_item_settled base) xs)
+drop_meant base (suc k) (Goal t c ∷ xs) s = drop_meant base k xs (and-right (is_item_settled base (Goal t c)) (list_all (is_item_settled base) xs) s)
+drop_meant base (suc k) (CatchEnd c ∷ xs) s = drop_meant base k xs (and-right (is_item_settled base (CatchEnd c)) (list_all (is_item_settled base) xs)
     s)
-drop_meant base (suc k) (Collect t c ∷ xs) s = drop_meant base k xs (and_right (is_item_settled base (Collect t c))
+drop_meant base (suc k) (Collect t c ∷ xs) s = drop_meant base k xs (and-right (is_item_settled base (Collect t c))
     (list_all (is_item_settled base) xs)
     s)
-drop_meant base (suc k) (Remove n ∷ xs) s = drop_meant base k xs (and_right (is_item_settled base (Remove n)) (list_all (is_item_settled base) xs) s)
+drop_meant base (suc k) (Remove n ∷ xs) s = drop_meant base k xs (and-right (is_item_settled base (Remove n)) (list_all (is_item_settled base) xs) s)
 drop_meant base (suc k) (End b ∷ xs) s = absurd cc
 
 drop_settled : (base k : ℕ) (xs : List BranchItem) → list_all (is_item_settled base) xs ≡ true → list_all (is_item_settled base) (drop k xs) ≡ true
 drop_settled base zero [] s = refl
 drop_settled base zero (x ∷ xs) s = s
 drop_settled base (suc k) [] s = refl
-drop_settled base (suc k) (x ∷ xs) s = drop_settled base k xs (and_right (is_item_settled base x) (list_all (is_item_settled base) xs) s)
+drop_settled base (suc k) (x ∷ xs) s = drop_settled base k xs (and-right (is_item_settled base x) (list_all (is_item_settled base) xs) s)
 
 below_more : (base next n : ℕ) → base ≤ next → nat_le n base ≡ true → nat_le n next ≡ true
-below_more base next n le t = le_test n next (let h = test_le n base t in omega (arith, h, le))
+below_more base next n le t = le_test n next (let h = le_by n base t in omega (arith, h, le))
 
 item_more : (base next : ℕ) (x : BranchItem) → base ≤ next → is_item_settled base x ≡ true → is_item_settled next x ≡ true
 item_more base next (Goal t c) le s = below_more base next _ le s
@@ -72,15 +58,9 @@ settled_more : (base next : ℕ) (xs : List BranchItem) → base ≤ next → li
     → list_all (is_item_settled next) xs ≡ true
 settled_more base next [] le s = refl
 settled_more base next (x ∷ xs) le s =
-    and_both (is_item_settled next x) (list_all (is_item_settled next) xs) (item_more base next x le
-    (and_left (is_item_settled base x) (list_all (is_item_settled base) xs) s))
-    (settled_more base next xs le (and_right (is_item_settled base x) (list_all (is_item_settled base) xs) s))
-
-each_drop : {X : Type 0} (P : X → Type 0) (k : ℕ) (xs : List X) → Each P xs → Each P (drop k xs)
-each_drop P zero [] e = tt
-each_drop P zero (x ∷ xs) e = e
-each_drop P (suc k) [] e = tt
-each_drop P (suc k) (x ∷ xs) e = each_drop P k xs e.1
+    and-both (is_item_settled next x) (list_all (is_item_settled next) xs) (item_more base next x le
+    (and-left (is_item_settled base x) (list_all (is_item_settled base) xs) s))
+    (settled_more base next xs le (and-right (is_item_settled base x) (list_all (is_item_settled base) xs) s))
 
 -- goals of an alternative
 module _ (p : Placement) (deferred : List BranchItem) (base : ℕ) (scope : ℕ → ℕ) (scoped : (n : ℕ)
@@ -114,11 +94,11 @@ module _ (p : Placement) (deferred : List BranchItem) (base : ℕ) (scope : ℕ 
       → list_all (is_item_settled next) (branch_goals scope deferred xs) ≡ true
   goals_settled next cut [] le e = refl
   goals_settled next cut (GoalItem t n ∷ xs) le e =
-      and_both (is_term_below next t) (list_all (is_item_settled next) (branch_goals scope deferred xs)) (le_test _ next e.0.0)
+      and-both (is_term_below next t) (list_all (is_item_settled next) (branch_goals scope deferred xs)) (le_test _ next e.0.0)
       (goals_settled next cut xs le e.1)
   goals_settled next cut (CatchMark n ∷ xs) le e = goals_settled next cut xs le e.1
   goals_settled next cut (CollectMark t n ∷ xs) le e =
-      and_both (is_term_below next t) (list_all (is_item_settled next) (branch_goals scope deferred xs)) (le_test _ next e.0.0)
+      and-both (is_term_below next t) (list_all (is_item_settled next) (branch_goals scope deferred xs)) (le_test _ next e.0.0)
       (goals_settled next cut xs le e.1)
   goals_settled next cut (RemovalItem k ∷ xs) le e = settled_more base next (drop k deferred) le (drop_settled base k deferred settled)
 
@@ -130,4 +110,4 @@ module _ (p : Placement) (deferred : List BranchItem) (base : ℕ) (scope : ℕ 
   joined_over (CollectMark t n ∷ xs) e = (e.0, joined_over xs e.1)
   joined_over (RemovalItem k ∷ xs) e =
       each-append (IsOverChoices (floor_in p) p.groups) (drop k over_floor) (joined_items over_floor xs)
-      (each_drop (IsOverChoices (floor_in p) p.groups) k over_floor stay.over) (joined_over xs e.1)
+      (each-drop (IsOverChoices (floor_in p) p.groups) k over_floor stay.over) (joined_over xs e.1)
