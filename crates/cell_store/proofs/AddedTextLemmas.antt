@@ -1,8 +1,8 @@
 -- Terms that are made while a store goes on.
-use Rattle.std.proofs.Common.{append-nil, ◌≡◌, ℕ, ◌≤◌, List, [], ◌++◌, length, length-append, take, refl, sym, ap, ap₂, ◌∙◌, subst, arith}
+use Rattle.std.proofs.Common.{append-nil, ◌≡◌, ℕ, ◌≤◌, List, [], ◌++◌, length, length-append, take, drop, get_or, map, refl, sym, ap, ap₂, ◌∙◌, subst, arith}
 use Rattle.std.proofs.lemmas.List.{take-append-le}
 use Rattle.au_model.specs.Terms.Each.{Each}
-use Rattle.au_model.proofs.EachLemmas.{each-map, each-more}
+use Rattle.au_model.proofs.EachLemmas.{each-drop, each-map, each-more}
 use Rattle.clause_compile.specs.Places.{CodeView, AreSound, Keeps}
 use Rattle.clause_compile.specs.declared.place.Place.{Place}
 use Rattle.clause_compile.proofs.PlaceMeaningLemmas.{added_keeps}
@@ -10,7 +10,7 @@ use Rattle.clause_compile.proofs.CodeLemmas.{names_sound}
 use Rattle.binding_array.specs.declared.cell.BindingCell.{BindingCell}
 use Rattle.cell_store.specs.HeapView.{HeapView, heap_text, cut_heap, IsSoundHeap, GrowsHeap}
 use Rattle.cell_store.specs.Undoing.{undone, Parts, IsWithin}
-use Rattle.cell_store.specs.StoreView.{Moment, moment_at, view_of, IsConsistentAt, IsConsistent, AddsText, text_at}
+use Rattle.cell_store.specs.StoreView.{Moment, nothing_bound, moment_at, view_of, IsConsistentAt, IsConsistent, AddsText, text_at}
 use Rattle.cell_store.specs.declared.mark.Mark.{Mark}
 use Rattle.cell_store.proofs.SubstitutionLemmas.{value_kept, substitution_kept, consistent_kept}
 use Rattle.cell_store.proofs.UndoingLemmas.{each-both, map-same}
@@ -81,6 +81,12 @@ module _ (h g : HeapView) (cs : List BindingCell) (t : List ℕ) (ms : List Mark
       let made : take m.made g.made ≡ take m.made h.made = ap (λ (u : HeapView). take m.made u.made) grown.is ∙ take-append-le m.made h.made grown.places s.0.older.made in
       subst (λ (ps : List Place). Keeps (heap_text (cut_heap m.made h)) (record { names = g.program.names ++ g.names; places = g.program.places ++ ps })) made c.0
 
+  abbrev Kept : Moment → Type 0
+  Kept x = Keeps (text_at (view_of before) x) (text_at (view_of now) x)
+
+  same_moments : map (moment_at now) ms ≡ map (moment_at before) ms
+  same_moments = map-same Seen (moment_at now) (moment_at before) moment ms seen
+
   pub added_view : AddsText (view_of before) (view_of now)
   added_view = record {
     keeps = keeps;
@@ -88,8 +94,9 @@ module _ (h g : HeapView) (cs : List BindingCell) (t : List ℕ) (ms : List Mark
     program = ap (λ (u : HeapView). u.program) grown.is;
     bound = substitution_kept (heap_text h) (heap_text g) cs keeps k.now.values;
     next = refl;
-    marks = map-same Seen (moment_at now) (moment_at before) moment ms seen;
-    at_marks = each-map Seen (λ x. Keeps (text_at (view_of before) x) (text_at (view_of now) x)) (moment_at before) kept_at ms seen;
+    floor = ap (λ xs. get_or xs 0 nothing_bound) same_moments;
+    marks = ap (drop 1) same_moments;
+    at_marks = each-drop Kept 1 (map (moment_at before) ms) (each-map Seen Kept (moment_at before) kept_at ms seen);
   }
 
 pub sound_heap : (p : Parts) → IsConsistent p → IsSoundHeap p.heap

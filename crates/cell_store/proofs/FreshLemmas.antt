@@ -80,12 +80,12 @@ young_stays old new from to k (inl e) y = subst (AreYoung new) (sym e) (by_first
   where
     by_first : (o : Option ℕ) → AreYoung old o → AreYoung new o
     by_first None y = tt
-    by_first (Some base) y = subst (λ (st : StoreView). Each (λ m. m.next ≤ base) st.marks) (sym k) y
+    by_first (Some base) y = subst (λ (st : StoreView). Each (λ m. m.next ≤ base) (st.floor ∷ st.marks)) (sym k) y
 young_stays old new from to k (inr e) y = subst (AreYoung new) (sym e) tt
 
-pub fresh_young : (st : StoreView) (x : ℕ) (fresh : Option ℕ) → AreYoung st fresh → is_fresh x fresh ≡ true → Each (λ m. m.next ≤ x) st.marks
+pub fresh_young : (st : StoreView) (x : ℕ) (fresh : Option ℕ) → AreYoung st fresh → is_fresh x fresh ≡ true → Each (λ m. m.next ≤ x) (st.floor ∷ st.marks)
 fresh_young st x None y f = absurd (true_false (sym f))
-fresh_young st x (Some base) y f = let le : base ≤ x = grind (arith, nat_tests) in each-more (λ m. m.next ≤ base) (λ m. m.next ≤ x) (λ m l. omega (arith, l, le)) st.marks y
+fresh_young st x (Some base) y f = let le : base ≤ x = grind (arith, nat_tests) in each-more (λ m. m.next ≤ base) (λ m. m.next ≤ x) (λ m l. omega (arith, l, le)) (st.floor ∷ st.marks) y
 
 pub first_older_than : (o : Option ℕ) (base : ℕ) (t : Term) → IfSome o (λ n. n ≡ base) → var_bound t ≤ base → IsOlder o t
 first_older_than None base t e l = tt

@@ -23,7 +23,7 @@ use Rattle.binding_array.specs.declared.cell.BindingCell.TheVariants.{Free, Var,
 use Rattle.binding_array.proofs.RepresentedLemmas.{written}
 use Rattle.cell_store.specs.CellMeanings.{substitution_in}
 use Rattle.cell_store.specs.HeapView.{heap_text, cut_heap}
-use Rattle.cell_store.specs.MadeBindings.{Bindings, with_binding, bindings_of, substitution_of, AreRising, AreMadeSince, IsSince}
+use Rattle.cell_store.specs.MadeBindings.{AreSinceMark, Bindings, with_binding, bindings_of, substitution_of, AreRising, AreMadeSince, IsSince}
 use Rattle.cell_store.specs.StoreView.{StoreView, IsConsistent, IsConsistentAt, IsValueIn, meaning, moment_at, view_of}
 use Rattle.cell_store.specs.Undoing.{Parts, IsWithin, freed, undone}
 use Rattle.cell_store.specs.declared.mark.Mark.{Mark}
@@ -298,3 +298,7 @@ since_within trail kept below n v h (inr k) = k.1
 -- what comes after so many
 pub taken_rest : (n : ℕ) (xs ys : List ℕ) → xs ≡ ys → take (length xs - n) (drop n xs) ≡ drop n ys
 taken_rest n xs ys e = ap (λ zs. take (length zs - n) (drop n zs)) e ∙ (ap (λ k. take k (drop n ys)) (sym (length-drop n ys)) ∙ take-length (drop n ys))
+
+-- as they were found
+pub made_since_mark : (p : Parts) → IsConsistent p → (m : Mark) → IsConsistentAt p m → IsWithin p m → (bs : Bindings) → AreSinceMark m p.trail p.cells bs → AreMadeSince (moment_at p m) (view_of p) bs
+made_since_mark p k m old w bs since = subst (AreMadeSince (moment_at p m) (view_of p)) (sym since.are) (made_since p k m old w since.variables since.rising since.all since.others)

@@ -1,5 +1,5 @@
 -- How the parts of a store go on fitting together, and what its view becomes.
-use Rattle.std.proofs.Common.{append-nil, ◌≡◌, ℕ, ◌+◌, ◌^◌, ◌<◌, ◌≤◌, List, [], ◌∷◌, ◌++◌, length, length-append, take, drop, slice_set, get_or, map, refl, sym, ap, ap₂, ◌∙◌, subst, arith}
+use Rattle.std.proofs.Common.{append-nil, ◌≡◌, ℕ, suc, ◌+◌, ◌^◌, ◌<◌, ◌≤◌, List, [], ◌∷◌, ◌++◌, length, length-append, take, drop, slice_set, get_or, map, refl, sym, ap, ap₂, ◌∙◌, subst, arith}
 use Rattle.std.proofs.Math.Seq.{take-length}
 use Rattle.std.proofs.lemmas.List.{length-set, take-append-le, take-map, map-append, length-take-le}
 use Rattle.au_model.specs.Terms.Each.{Each}
@@ -14,7 +14,7 @@ use Rattle.binding_array.specs.declared.cell.BindingCell.TheVariants.{Free}
 use Rattle.cell_store.specs.HeapView.{HeapView, heap_text, cut_heap}
 use Rattle.cell_store.specs.CellMeanings.{AreConsistent}
 use Rattle.cell_store.specs.Undoing.{undone, Parts, IsOlderMark, AreNested, mark_now, IsWithin}
-use Rattle.cell_store.specs.StoreView.{Moment, StoreView, moment_of, moment_at, view_of, IsConsistentAt, IsConsistent, IsValidStore, new_store, with_numbers, with_mark, with_marks, taken_back, meaning, BindsFurther, CanBeBound}
+use Rattle.cell_store.specs.StoreView.{Moment, StoreView, moment_of, moment_at, view_of, view_over, over_floor, IsConsistentAt, IsConsistent, IsValidStore, new_store, with_numbers, with_mark, with_marks, taken_back, meaning, BindsFurther, CanBeBound}
 use Rattle.cell_store.specs.declared.mark.Mark.{Mark}
 use Rattle.cell_store.proofs.SubstitutionLemmas.{none_bound, none_consistent, consistent_grown, substitution_grown, is_new, is_below, final, is_free_cell, bound_consistent, bound_value}
 use Rattle.clause_compile.proofs.CodeLemmas.{each_taken}
@@ -34,13 +34,28 @@ module _ (h : HeapView) (cs ds : List BindingCell) (t u : List ℕ) (ms ns : Lis
   pub still_moments : (ks : List Mark) → Each W ks → map (moment_at (parts h ds u ns)) ks ≡ map (moment_at (parts h cs t ms)) ks
   still_moments ks w = map-same W (moment_at (parts h ds u ns)) (moment_at (parts h cs t ms)) (λ m v. ap (moment_of (cut_heap m.made h)) (same m v)) ks w
 
+-- a new store
+abbrev new_heap_view : CodeView → HeapView
+new_heap_view program = record { program = program; names = []; made = [] }
+
+pub new_heap : (program : CodeView) (h : HeapView) → h ≡ record { program = program; names = []; made = [] } → heap_text h ≡ program
+new_heap program h e = ap heap_text e ∙ same_text (append-nil program.names) (append-nil program.places)
+  where
+    same_text : {ns ms : List (List ℕ)} {ps qs : List Place} → ns ≡ ms → ps ≡ qs → (let c : CodeView = record { names = ns; places = ps } in c) ≡ record { names = ms; places = qs }
+    same_text a b = cc
+
+-- the floor of a new store
+abbrev pub first_mark : Mark
+first_mark = record { trail = 0; variables = 0; made = 0 }
+
 -- nothing is made or bound
-pub new_parts : (program : CodeView) → AreSound (length program.names) program.places → length program.places < 2 ^ 32 → AreDistinct program.names → (h : HeapView) → heap_text h ≡ program → IsConsistent (parts h [] [] [])
-new_parts program text few apart h e = record {
+pub new_parts : (program : CodeView) → AreSound (length program.names) program.places → length program.places < 2 ^ 32 → AreDistinct program.names → (h : HeapView) → h ≡ record { program = program; names = []; made = [] }
+    → IsConsistent (parts h [] [] (first_mark ∷ []))
+new_parts program text few apart h is = let e = new_heap program h is in record {
   now = subst (λ c. AreConsistent c []) (sym e) (none_consistent program text);
-  at_marks = tt;
-  within = tt;
-  nested = tt;
+  at_marks = (subst (λ c. AreConsistent c []) (sym (new_heap program (cut_heap 0 h) (ap (cut_heap 0) is))) (none_consistent program text), tt);
+  within = (record { older = record { trail = omega arith; variables = omega arith; made = omega arith }; there = tt }, tt);
+  nested = (tt, tt);
   trail = tt;
   variables = omega arith;
   places = subst (λ (c : CodeView). length c.places < 2 ^ 32) (sym e) few;
@@ -165,7 +180,10 @@ moments_below p n [] w h = tt
 moments_below p n (m ∷ ms) w h = (omega (arith, h.0, length-undone m p.trail p.cells w.0.older.variables), moments_below p n ms w.1 h.1)
 
 -- a mark
-module _ (h : HeapView) (cs : List BindingCell) (t : List ℕ) (ms : List Mark) (m : Mark) (k : IsConsistent (parts h cs t ms)) (is : m ≡ mark_now (parts h cs t ms)) where
+module _ (h : HeapView) (cs : List BindingCell) (t : List ℕ) (f : Mark) (ns : List Mark) (m : Mark) (k : IsConsistent (parts h cs t (f ∷ ns))) (is : m ≡ mark_now (parts h cs t (f ∷ ns))) where
+  abbrev ms : List Mark
+  ms = f ∷ ns
+
   abbrev p : Parts
   p = parts h cs t ms
 
@@ -203,7 +221,29 @@ module _ (h : HeapView) (cs : List BindingCell) (t : List ℕ) (ms : List Mark) 
   pub marked_view : view_of q ≡ with_mark (view_of p)
   marked_view =
       let last : moment_at q m ≡ moment_of h cs = ap (λ g. moment_of g (undone m t cs)) heap_same ∙ ap (moment_of h) cells_same in
-      let marks : map (moment_at q) (ms ++ m ∷ []) ≡ map (moment_at p) ms ++ moment_of h cs ∷ [] = map-append (moment_at q) ms (m ∷ []) ∙ ap (λ x. map (moment_at p) ms ++ x ∷ []) last in cc
+      let marks : map (moment_at q) (ns ++ m ∷ []) ≡ map (moment_at p) ns ++ moment_of h cs ∷ [] = map-append (moment_at q) ns (m ∷ []) ∙ ap (λ x. map (moment_at p) ns ++ x ∷ []) last in cc
+
+  -- which becomes the floor where there is no other
+  pub floored_parts : ns ≡ [] → IsConsistent (parts h cs t (m ∷ []))
+  floored_parts none = let all : IsConsistent (parts h cs t (f ∷ m ∷ [])) = subst (λ js. IsConsistent (parts h cs t (f ∷ js ++ m ∷ []))) none marked_parts in record {
+    now = k.now;
+    at_marks = (all.at_marks.1.0, tt);
+    within = (record { older = record { trail = all.within.1.0.older.trail; variables = all.within.1.0.older.variables; made = all.within.1.0.older.made }; there = all.within.1.0.there }, tt);
+    nested = (tt, tt);
+    trail = k.trail;
+    variables = k.variables;
+    places = k.places;
+    distinct = k.distinct;
+  }
+
+  pub floored_view : ns ≡ [] → view_of (parts h cs t (m ∷ [])) ≡ over_floor (view_of p)
+  floored_view none =
+      let last : moment_at q m ≡ moment_of h cs = ap (λ g. moment_of g (undone m t cs)) heap_same ∙ ap (moment_of h) cells_same in
+      let marks : map (moment_at p) ns ≡ [] = ap (map (moment_at p)) none in cc
+
+pub none_marked : (f : Mark → Moment) (ms : List Mark) → map f ms ≡ [] → ms ≡ []
+none_marked f [] e = refl
+none_marked f (m ∷ ms) e = absurd (let l : length (map f (m ∷ ms)) ≡ 0 = ap length e in omega (arith, l))
 
 -- the oldest marks alone
 pub kept_parts : (h : HeapView) (cs : List BindingCell) (t : List ℕ) (ms : List Mark) (n : ℕ) → IsConsistent (parts h cs t ms) → IsConsistent (parts h cs t (take n ms))
@@ -218,8 +258,10 @@ kept_parts h cs t ms n k = record {
   distinct = k.distinct;
 }
 
-pub kept_view : (h : HeapView) (cs : List BindingCell) (t : List ℕ) (ms : List Mark) (n : ℕ) → view_of (parts h cs t (take n ms)) ≡ with_marks n (view_of (parts h cs t ms))
-kept_view h cs t ms n = let e = take-map (moment_at (parts h cs t ms)) n ms in let marks : map (moment_at (parts h cs t (take n ms))) (take n ms) ≡ take n (map (moment_at (parts h cs t ms)) ms) = sym e in cc
+pub kept_view : (h : HeapView) (cs : List BindingCell) (t : List ℕ) (f : Mark) (ms : List Mark) (n : ℕ) → view_of (parts h cs t (f ∷ take n ms)) ≡ with_marks n (view_of (parts h cs t (f ∷ ms)))
+kept_view h cs t f ms n =
+    let e = take-map (moment_at (parts h cs t (f ∷ ms))) n ms in
+    let marks : map (moment_at (parts h cs t (f ∷ take n ms))) (take n ms) ≡ take n (map (moment_at (parts h cs t (f ∷ ms))) ms) = sym e in cc
 
 -- taken back to a mark
 module _ (h : HeapView) (cs : List BindingCell) (t : List ℕ) (before : List Mark) (m : Mark) (after : List Mark) (k : IsConsistent (parts h cs t (before ++ m ∷ after))) where
@@ -281,25 +323,17 @@ module _ (h : HeapView) (cs : List BindingCell) (t : List ℕ) (before : List Ma
       nested_front [] e = (tt, tt)
       nested_front (n ∷ ns) e = (front (IsOlderMark n) ns e.0, nested_front ns e.1)
 
-  pub back_view : view_of back ≡ taken_back (moment_at old m) (record { program = h.program; names = h.names; now = moment_of h cs; marks = map (moment_at old) kept })
+  pub back_view : view_of back ≡ taken_back (moment_at old m) (view_over h (moment_of h cs) (map (moment_at old) kept))
   back_view = let marks : map (moment_at back) kept ≡ map (moment_at old) kept = map-same (λ n. IsOlderMark n m) (moment_at back) (moment_at old) moments kept older in cc
 
--- a new store
-abbrev new_heap_view : CodeView → HeapView
-new_heap_view program = record { program = program; names = []; made = [] }
-
-pub new_heap : (program : CodeView) (h : HeapView) → h ≡ record { program = program; names = []; made = [] } → heap_text h ≡ program
-new_heap program h e = ap heap_text e ∙ same_text (append-nil program.names) (append-nil program.places)
-  where
-    same_text : {ns ms : List (List ℕ)} {ps qs : List Place} → ns ≡ ms → ps ≡ qs → (let c : CodeView = record { names = ns; places = ps } in c) ≡ record { names = ms; places = qs }
-    same_text a b = cc
-
-pub new_view : (program : CodeView) (h : HeapView) (cs : List BindingCell) (t : List ℕ) (ms : List Mark) → h ≡ record { program = program; names = []; made = [] } → cs ≡ [] → t ≡ [] → ms ≡ [] → view_of (parts h cs t ms) ≡ new_store program
+pub new_view : (program : CodeView) (h : HeapView) (cs : List BindingCell) (t : List ℕ) (ms : List Mark) → h ≡ record { program = program; names = []; made = [] } → cs ≡ [] → t ≡ [] → ms ≡ []
+    → view_of (parts h cs t (first_mark ∷ ms)) ≡ new_store program
 new_view program h cs t ms e f g i =
-    ap (λ ns. view_of (parts h cs t ns)) i ∙ (ap (λ u. view_of (parts h cs u [])) g ∙ (ap (λ ds. view_of (parts h ds [] [])) f ∙ (ap (λ k. view_of (parts k [] [] [])) e ∙ ap (λ s. with_bound s) (none_bound (heap_text (new_heap_view program))))))
+    ap (λ ns. view_of (parts h cs t (first_mark ∷ ns))) i ∙ (ap (λ u. view_of (parts h cs u (first_mark ∷ []))) g ∙ (ap (λ ds. view_of (parts h ds [] (first_mark ∷ []))) f
+    ∙ (ap (λ k. view_of (parts k [] [] (first_mark ∷ []))) e ∙ ap (λ s. with_bound s) (none_bound (heap_text (new_heap_view program))))))
   where
     with_bound : Substitution → StoreView
-    with_bound s = record { program = program; names = []; now = record { made = []; bound = s; next = 0 }; marks = [] }
+    with_bound s = let m : Moment = record { made = []; bound = s; next = 0 } in record { program = program; names = []; now = m; floor = m; marks = [] }
 
 -- taken back to the mark at a place
 module _ (h : HeapView) (cs : List BindingCell) (t : List ℕ) (ms : List Mark) (i : ℕ) (m : Mark) (g : HeapView) (ds : List BindingCell) (u : List ℕ) (ns : List Mark) (k : IsConsistent (parts h cs t ms)) (within : i < length ms) (at : m ≡ get_or ms i m) (heap : g ≡ cut_heap m.made h)
@@ -319,9 +353,31 @@ module _ (h : HeapView) (cs : List BindingCell) (t : List ℕ) (ms : List Mark) 
   pub undone_parts : IsConsistent (parts g ds u ns)
   undone_parts = subst IsConsistent (sym same_parts) (back_parts h cs t (take i ms) m (drop (i + 1) ms) whole)
 
-  pub undone_view : (before after : List Moment) (moment : Moment) → map (moment_at (parts h cs t ms)) ms ≡ before ++ moment ∷ after → i ≡ length before → view_of (parts g ds u ns) ≡ taken_back moment (with_marks (i + 1) (view_of (parts h cs t ms)))
-  undone_view before after moment e l =
-      let own : moment ≡ moment_at (parts h cs t ms) m = mapped_at (moment_at (parts h cs t ms)) ms i m before after moment within at e l in
+  pub undone_at : view_of (parts g ds u ns) ≡ taken_back (moment_at (parts h cs t ms) m) (view_over h (moment_of h cs) (take (i + 1) (map (moment_at (parts h cs t ms)) ms)))
+  undone_at =
       let front : map (moment_at (parts h cs t ms)) (take i ms ++ m ∷ []) ≡ take (i + 1) (map (moment_at (parts h cs t ms)) ms) = ap (map (moment_at (parts h cs t ms))) (sym front_is) ∙ sym (take-map (moment_at (parts h cs t ms)) (i + 1) ms) in
-      ap view_of same_parts ∙ (back_view h cs t (take i ms) m (drop (i + 1) ms) whole
-      ∙ ap₂ (λ x xs. taken_back x (record { program = h.program; names = h.names; now = moment_of h cs; marks = xs })) (sym own) front)
+      ap view_of same_parts ∙ (back_view h cs t (take i ms) m (drop (i + 1) ms) whole ∙ ap (λ xs. taken_back (moment_at (parts h cs t ms) m) (view_over h (moment_of h cs) xs)) front)
+
+-- the floor stays
+module _ (h : HeapView) (cs : List BindingCell) (t : List ℕ) (f : Mark) (ms : List Mark) (i : ℕ) (m : Mark) (g : HeapView) (ds : List BindingCell) (u : List ℕ) (ns : List Mark) (k : IsConsistent (parts h cs t (f ∷ ms))) (within : i < length ms) (at : m ≡ get_or ms i m) (heap : g ≡ cut_heap m.made h)
+    (cells : ds ≡ undone m t cs) (trail : u ≡ take m.trail t) (marks : ns ≡ take (i + 1) ms) where
+  one_more : suc i + 1 ≡ suc (i + 1)
+  one_more = omega arith
+
+  in_all : suc i < length (f ∷ ms)
+  in_all = omega (arith, within)
+
+  all : f ∷ ns ≡ take (suc i + 1) (f ∷ ms)
+  all = rw one_more (ap (λ js. f ∷ js) marks)
+
+  pub over_parts : IsConsistent (parts g ds u (f ∷ ns))
+  over_parts = undone_parts h cs t (f ∷ ms) (suc i) m g ds u (f ∷ ns) k in_all at heap cells trail all
+
+  pub undone_view : (before after : List Moment) (moment : Moment) → map (moment_at (parts h cs t (f ∷ ms))) ms ≡ before ++ moment ∷ after → i ≡ length before
+      → view_of (parts g ds u (f ∷ ns)) ≡ taken_back moment (with_marks (i + 1) (view_of (parts h cs t (f ∷ ms))))
+  undone_view before after moment e l =
+      let p = parts h cs t (f ∷ ms) in
+      let own : moment ≡ moment_at p m = mapped_at (moment_at p) ms i m before after moment within at e l in
+      undone_at h cs t (f ∷ ms) (suc i) m g ds u (f ∷ ns) k in_all at heap cells trail all
+      ∙ (ap (λ n. taken_back (moment_at p m) (view_over h (moment_of h cs) (take n (map (moment_at p) (f ∷ ms))))) one_more
+      ∙ ap (λ x. taken_back x (with_marks (i + 1) (view_of p))) (sym own))

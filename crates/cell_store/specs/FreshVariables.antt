@@ -1,5 +1,5 @@
 -- The variables of a clause whose head is unified: while older terms have none of them, such a variable is in none of those.
-use Rattle.std.specs.Prelude.{◌≡◌, ◌⊎◌, ℕ, ◌≤◌, Bool, false, nat_le, Option, Some, None}
+use Rattle.std.specs.Prelude.{◌≡◌, ◌⊎◌, ℕ, ◌≤◌, Bool, false, nat_le, Option, Some, None, ◌∷◌}
 use Rattle.au_term.specs.Term.{Term, var_bound}
 use Rattle.au_model.specs.Terms.Each.{Each}
 use Rattle.au_model.specs.Terms.Substitutions.{resolve}
@@ -17,10 +17,10 @@ abbrev pub is_fresh : ℕ → Option ℕ → Bool
 is_fresh x None = false
 is_fresh x (Some base) = nat_le base x
 
--- the variables of the clause of which this is the first one came after all marks
+-- the variables of the clause of which this is the first one came after the floor and all marks
 abbrev pub AreYoung : StoreView → Option ℕ → Type 0
 AreYoung st None = Unit {0}
-AreYoung st (Some base) = Each (λ m. m.next ≤ base) st.marks
+AreYoung st (Some base) = Each (λ m. m.next ≤ base) (st.floor ∷ st.marks)
 
 -- once an older variable is bound to a compound, the clause's variables are no longer fresh
 abbrev pub fresh_after : Option ℕ → BindingCell → Option ℕ

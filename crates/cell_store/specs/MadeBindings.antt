@@ -1,6 +1,7 @@
 -- The bindings that were made since a mark.
-use Rattle.std.specs.Prelude.{◌≡◌, ◌⊎◌, ℕ, ◌<◌, ◌≤◌, List, [], ◌∷◌, map}
+use Rattle.std.specs.Prelude.{◌≡◌, ◌⊎◌, ℕ, ◌<◌, ◌≤◌, List, [], ◌∷◌, map, length, drop}
 use Rattle.std.specs.List.{Contains}
+use Rattle.std.specs.List.Sorted.{IsStrictlyIncreasing}
 use Rattle.au_term.specs.Term.{VarTerm}
 use Rattle.au_model.specs.Terms.Each.{Each}
 use Rattle.au_model.specs.Terms.Substitutions.{Substitution, value_of}
@@ -8,6 +9,7 @@ use Rattle.binding_array.specs.Represented.{variable_cell, IsFalling}
 use Rattle.binding_array.specs.declared.cell.BindingCell.{BindingCell}
 use Rattle.binding_array.specs.declared.cell.BindingCell.TheVariants.{Free, Var, Int, Atom, Compound}
 use Rattle.cell_store.specs.StoreView.{Moment, StoreView, substitution, meaning, IsValueIn, IsComposition}
+use Rattle.cell_store.specs.declared.mark.Mark.{Mark}
 
 -- variables with what they are bound to
 abbrev pub Bindings : Type 0
@@ -38,6 +40,14 @@ AreRising (b ∷ bs) = Each (λ d. b.0 < d.0) bs × AreRising bs
 -- one of a trail, or a new one
 abbrev pub IsSince : List ℕ → ℕ → ℕ → ℕ → Type 0
 IsSince trail below count v = Contains trail v ⊎ ((below ≤ v) × (v < count))
+
+-- the bindings of those that came on a trail after a mark, and of the new ones
+pub record AreSinceMark (m : Mark) (trail : List ℕ) (cells : List BindingCell) (bs : Bindings) : Type 0 where
+  pub variables : List ℕ
+  pub rising : IsStrictlyIncreasing variables
+  pub all : (v : ℕ) → IsSince (drop m.trail trail) m.variables (length cells) v → Contains variables v
+  pub others : (v : ℕ) → Contains variables v → IsSince (drop m.trail trail) m.variables (length cells) v
+  pub are : bs ≡ bindings_of cells variables
 
 -- variables that were free then, each once, with values that make what each variable stands for now of what it stood for; none is
 -- bound to a younger variable, and there are as many variables as then or more

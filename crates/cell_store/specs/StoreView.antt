@@ -1,5 +1,5 @@
--- What callers see of a store: the text, what is bound and the next variable number, and what they were at each mark.
-use Rattle.std.specs.Prelude.{◌≡◌, ℕ, ◌+◌, ◌^◌, ◌<◌, ◌≤◌, false, List, [], ◌++◌, ◌∷◌, length, map, take}
+-- What callers see of a store: the text, what is bound and the next variable number, and what they were at its floor and at each mark.
+use Rattle.std.specs.Prelude.{◌≡◌, ℕ, ◌+◌, ◌^◌, ◌<◌, ◌≤◌, false, List, [], ◌++◌, ◌∷◌, length, map, take, drop, get_or}
 use Rattle.au_term.specs.Term.{Term, VarTerm, var_bound}
 use Rattle.au_model.specs.Terms.Each.{Each}
 use Rattle.au_model.specs.Terms.Substitutions.{Substitution, value_of, resolve, occurs}
@@ -21,11 +21,13 @@ pub record Moment : Type 0 where
   pub bound : Substitution
   pub next : ℕ
 
--- a program's text and further names, a substitution and the next number; and what it can be taken back to, the oldest first
+-- a program's text and further names, what is made and bound now, what was at the floor, under which nothing is taken back, and what the
+-- store can be taken back to, the oldest first
 pub record StoreView : Type 0 where
   pub program : CodeView
   pub names : List (List ℕ)
   pub now : Moment
+  pub floor : Moment
   pub marks : List Moment
 
 -- the program's text with the names that came behind it, and the terms that were made at a moment
@@ -78,8 +80,15 @@ moment_of h cells = record { made = h.made; bound = substitution_in (heap_text h
 abbrev pub moment_at : Parts → Mark → Moment
 moment_at p m = moment_of (cut_heap m.made p.heap) (undone m p.trail p.cells)
 
+abbrev pub nothing_bound : Moment
+nothing_bound = record { made = []; bound = []; next = 0 }
+
+-- the first of the moments at marks is that of the floor
+abbrev pub view_over : HeapView → Moment → List Moment → StoreView
+view_over h now moments = record { program = h.program; names = h.names; now = now; floor = get_or moments 0 nothing_bound; marks = drop 1 moments }
+
 abbrev pub view_of : Parts → StoreView
-view_of p = record { program = p.heap.program; names = p.heap.names; now = moment_of p.heap p.cells; marks = map (moment_at p) p.marks }
+view_of p = view_over p.heap (moment_of p.heap p.cells) (map (moment_at p) p.marks)
 
 -- at a mark too the cells represent a substitution
 abbrev pub IsConsistentAt : Parts → Mark → Type 0
@@ -98,23 +107,27 @@ pub record IsConsistent (p : Parts) : Type 0 where
 
 -- nothing is made or bound
 abbrev pub new_store : CodeView → StoreView
-new_store program = record { program = program; names = []; now = record { made = []; bound = []; next = 0 }; marks = [] }
+new_store program = record { program = program; names = []; now = nothing_bound; floor = nothing_bound; marks = [] }
 
 -- further numbers were taken
 abbrev pub with_numbers : ℕ → StoreView → StoreView
-with_numbers n st = record { program = st.program; names = st.names; now = record { made = st.now.made; bound = st.now.bound; next = st.now.next + n }; marks = st.marks }
+with_numbers n st = record st { now = record { made = st.now.made; bound = st.now.bound; next = st.now.next + n } }
 
 -- the state is marked
 abbrev pub with_mark : StoreView → StoreView
-with_mark st = record { program = st.program; names = st.names; now = st.now; marks = st.marks ++ st.now ∷ [] }
+with_mark st = record st { marks = st.marks ++ st.now ∷ [] }
 
 -- the oldest marks alone
 abbrev pub with_marks : ℕ → StoreView → StoreView
-with_marks n st = record { program = st.program; names = st.names; now = st.now; marks = take n st.marks }
+with_marks n st = record st { marks = take n st.marks }
+
+-- the state is the floor
+abbrev pub over_floor : StoreView → StoreView
+over_floor st = record st { floor = st.now }
 
 -- taken back to a state that was marked
 abbrev pub taken_back : Moment → StoreView → StoreView
-taken_back m st = record { program = st.program; names = st.names; now = m; marks = st.marks }
+taken_back m st = record st { now = m }
 
 -- one substitution and then another make the third
 abbrev pub IsComposition : Substitution → Substitution → Substitution → Type 0
@@ -122,7 +135,7 @@ IsComposition s further t = (n : ℕ) → value_of t n ≡ resolve further (valu
 
 -- the same, but for what is bound
 abbrev pub with_substitution : Substitution → StoreView → StoreView
-with_substitution s st = record { program = st.program; names = st.names; now = record { made = st.now.made; bound = s; next = st.now.next }; marks = st.marks }
+with_substitution s st = record st { now = record { made = st.now.made; bound = s; next = st.now.next } }
 
 -- bindings were made, and all else is as it was
 pub record BindsFurther (old new : StoreView) (further : Substitution) : Type 0 where
@@ -151,5 +164,6 @@ pub record AddsText (old new : StoreView) : Type 0 where
   pub program : new.program ≡ old.program
   pub bound : substitution new ≡ substitution old
   pub next : new.now.next ≡ old.now.next
+  pub floor : new.floor ≡ old.floor
   pub marks : new.marks ≡ old.marks
   pub at_marks : Each (λ m. Keeps (text_at old m) (text_at new m)) old.marks

@@ -7,7 +7,7 @@ use Rattle.binding_array.specs.declared.cell.BindingCell.TheVariants.{Free}
 use Rattle.cell_store.specs.HeapView.{HeapView}
 use Rattle.cell_store.specs.declared.mark.Mark.{Mark}
 
--- the parts of a store
+-- the parts of a store; the first of the marks is that of its floor
 pub record Parts : Type 0 where
   pub heap : HeapView
   pub cells : List BindingCell

@@ -1,15 +1,35 @@
 //! The bindings that were made since a mark.
 ghost use Rattle.std.specs.Prelude.{◌≡◌, ◌<◌, ◌≤◌, ◌^◌, ℕ, IfOk, length};
+ghost use Rattle.au_model.specs.Terms.Each.{Each};
 ghost use Rattle.std.specs.List.{Contains};
 ghost use Rattle.std.specs.List.Sorted.{IsStrictlyIncreasing};
-ghost use Rattle.cell_store.specs.MadeBindings.{IsSince, bindings_of};
+ghost use Rattle.cell_store.specs.MadeBindings.{AreSinceMark, IsSince, bindings_of};
 
+use crate::mark::Mark;
 use au_term::NoMemory;
 use binding_array::{BindingArray, BindingCell};
 use std::alloc::Global;
 
+/// The bindings of the variables that came on the trail after a mark was made, and of the new ones, each once, in the order of
+/// their numbers.
+pub(crate) fn bindings_after(
+    alloc: Global,
+    mark: Mark,
+    trail: &[u32],
+    cells: &BindingArray,
+) -> Result<Vec<(u32, BindingCell)>, NoMemory>
+    requires trail { mark.trail ≤ length trail.now }
+    requires variables { mark.variables ≤ length cells.now }
+    requires there { Each (λ v. v < length cells.now) trail.now }
+    requires small { length cells.now < 2 ^ 32 }
+    ensures { IfOk result (λ bs. AreSinceMark mark trail.now cells.now bs.items) }
+{
+    let variables = variables_since(alloc, &trail[mark.trail..], mark.variables, cells.len())?;
+    bindings_of(alloc, &variables, cells)
+}
+
 /// The variables of a trail and the new ones, each once, in the order of their numbers.
-pub(crate) fn variables_since(
+fn variables_since(
     alloc: Global,
     trail: &[u32],
     below: usize,
@@ -31,7 +51,7 @@ pub(crate) fn variables_since(
 }
 
 /// The bindings of variables, where they are bound.
-pub(crate) fn bindings_of(
+fn bindings_of(
     alloc: Global,
     variables: &[u32],
     cells: &BindingArray,

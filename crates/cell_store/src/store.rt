@@ -9,16 +9,16 @@ ghost use Rattle.clause_compile.specs.AtomNumbers.{name_at};
 ghost use Rattle.clause_compile.specs.Places.{IsPlaceOf, meaning_in};
 ghost use Rattle.cell_store.specs.Arguments.{HasFunctor, IsArgument, IsArgumentValue, argument_at, code_place};
 ghost use Rattle.cell_store.specs.ArgumentSteps.{IsCompoundPlace, IsFreshPlace, IsArgumentReached};
-ghost use Rattle.cell_store.specs.Undoing.{AreNested, freed};
+ghost use Rattle.cell_store.specs.Undoing.{AreNested, freed, mark_now};
 ghost use Rattle.cell_store.specs.FreshVariables.{AreYoung, IsOlder};
 ghost use Rattle.cell_store.specs.ListGoals.{list_goal};
 ghost use Rattle.cell_store.specs.MadeBindings.{AreMadeSince};
 ghost use Rattle.cell_store.specs.UnificationSteps.{IsUnified, OnlyBinds};
-ghost use Rattle.cell_store.specs.StoreView.{Moment, IsValidStore, IsValueIn, IsDereferenced, CanBeBound, BindsFurther, AddsText, meaning, substitution, text_in, value_term, new_store, with_numbers, with_mark, with_marks, taken_back};
+ghost use Rattle.cell_store.specs.StoreView.{Moment, IsValidStore, IsValueIn, IsDereferenced, CanBeBound, BindsFurther, AddsText, meaning, substitution, text_in, value_term, new_store, with_numbers, with_mark, with_marks, taken_back, over_floor};
 
 use crate::arguments::{Arguments, Equations};
 use crate::heap::Heap;
-use crate::made::{bindings_of, variables_since};
+use crate::made::bindings_after;
 use crate::mark::Mark;
 use crate::resolved::resolved;
 use crate::unify::unify;
@@ -35,8 +35,9 @@ use std::sync::Arc;
 pub struct Store {
     heap: Heap,
     cells: BindingArray,
-    /// Variables that were there at the newest mark of their time and were bound since.
+    /// Variables that were there at the newest mark of their time, or at the floor, and were bound since.
     trail: Vec<u32>,
+    floor: Mark,
     marks: Vec<Mark>,
     /// Room for the equations that wait in a unification, and for the arguments that wait in its occurs check.
     pending: Vec<Equations>,
@@ -49,14 +50,15 @@ impl Model for Store {
     ghost use Rattle.au_term.specs.PrefixOrder.{term_code};
     ghost use Rattle.cell_store.specs.Undoing.{Parts};
     ghost use Rattle.cell_store.specs.StoreView.{StoreView, IsConsistent, view_of};
+    ghost use Rattle.std.specs.Prelude.{◌∷◌};
 
     ghost Value = { StoreView };
 
     ghost coded = { Prim.hlevel (codes, term_code) };
 
-    ghost view = { λ s. view_of (record { heap = s.heap; cells = s.cells; trail = s.trail.items; marks = s.marks.items }) };
+    ghost view = { λ s. view_of (record { heap = s.heap; cells = s.cells; trail = s.trail.items; marks = s.floor ∷ s.marks.items }) };
 
-    ghost invariant = { λ s. IsConsistent (record { heap = s.heap; cells = s.cells; trail = s.trail.items; marks = s.marks.items }) };
+    ghost invariant = { λ s. IsConsistent (record { heap = s.heap; cells = s.cells; trail = s.trail.items; marks = s.floor ∷ s.marks.items }) };
 }
 
 impl Store {
@@ -75,6 +77,11 @@ impl Store {
             heap,
             cells: BindingArray::new(alloc),
             trail: Vec::new(alloc),
+            floor: Mark {
+                trail: 0,
+                variables: 0,
+                made: 0,
+            },
             marks: Vec::new(alloc),
             pending: Vec::new(alloc),
             walked: Vec::new(alloc),
@@ -260,7 +267,7 @@ impl Store {
         ensures ok { OnOk result (BindsFurther self.old self.new ((variable, meaning self.old value) ∷ [])) }
         ensures err { OnErr result (self.new ≡ self.old) }
     {
-        if (variable as usize) < protected(&self.marks) {
+        if (variable as usize) < protected(self.floor, &self.marks) {
             self.trail.push(variable)?;
         }
         self.cells.bind(variable, value);
@@ -281,11 +288,11 @@ impl Store {
         self.walked = walked;
     }
 
-    /// Binds a free variable that came after all marks, so that its cell is cut off where one is gone back to.
+    /// Binds a free variable that came after the floor and all marks, so that its cell is cut off where one is gone back to.
     #[inline(always)]
     pub(crate) fn bind_young(&mut self, variable: u32, value: BindingCell)
         requires can { CanBeBound self.old variable value }
-        requires young { Each (λ m. m.next ≤ variable) self.old.marks }
+        requires young { Each (λ m. m.next ≤ variable) (self.old.floor ∷ self.old.marks) }
         ensures { BindsFurther self.old self.new ((variable, meaning self.old value) ∷ []) }
     {
         self.cells.bind(variable, value);
@@ -321,13 +328,13 @@ impl Store {
         self.unify_from(goal, head, self.if_young(base))
     }
 
-    /// The first variable of a clause, where the clause's variables came after all marks.
+    /// The first variable of a clause, where the clause's variables came after the floor and all marks.
     #[inline(always)]
     fn if_young(&self, base: u32) -> Option<u32>
         ensures young { AreYoung self.now result }
         ensures same { IfSome result (λ first. first ≡ base) }
     {
-        if protected(&self.marks) <= base as usize {
+        if protected(self.floor, &self.marks) <= base as usize {
             Some(base)
         } else {
             None
@@ -403,10 +410,14 @@ impl Store {
         requires { mark < length self.now.marks }
         ensures { IfOk result (λ bs. (before after : List Moment) (moment : Moment) → self.now.marks ≡ before ++ moment ∷ after → mark ≡ length before → AreMadeSince moment self.now bs.items) }
     {
-        let at = self.marks[mark];
-        let trail = &self.trail[at.trail..];
-        let variables = variables_since(self.alloc, trail, at.variables, self.cells.len())?;
-        bindings_of(self.alloc, &variables, &self.cells)
+        bindings_after(self.alloc, self.marks[mark], &self.trail, &self.cells)
+    }
+
+    /// The bindings that were made since the floor, in the same way.
+    pub fn made_since_floor(&self) -> Result<Vec<(u32, BindingCell)>, NoMemory>
+        ensures { IfOk result (λ bs. AreMadeSince self.now.floor self.now bs.items) }
+    {
+        bindings_after(self.alloc, self.floor, &self.trail, &self.cells)
     }
 
     /// Marks the state of the store, and gives the number of marks before.
@@ -417,12 +428,18 @@ impl Store {
         ensures err { OnErr result (self.new ≡ self.old) }
     {
         let count = self.marks.len();
-        self.marks.push(Mark {
-            trail: self.trail.len(),
-            variables: self.cells.len(),
-            made: self.heap.made(),
-        })?;
+        self.marks
+            .push(mark_of(&self.heap, &self.cells, &self.trail))?;
         Ok(count)
+    }
+
+    /// Takes the state of the store as its floor, where nothing is marked.
+    pub fn set_floor(&mut self)
+        requires { self.old.marks ≡ [] }
+        ensures { self.new ≡ over_floor self.old }
+    {
+        let floor = mark_of(&self.heap, &self.cells, &self.trail);
+        self.floor = floor;
     }
 
     /// Drops all marks after the oldest ones; what is bound and made stays.
@@ -447,15 +464,27 @@ impl Store {
     }
 }
 
-/// How many variables there were at the newest mark.
+/// A mark of how a store is.
 #[inline(always)]
-fn protected(marks: &[Mark]) -> usize
-    requires { AreNested marks.now }
-    ensures { Each (λ m. m.variables ≤ result) marks.now }
+fn mark_of(heap: &Heap, cells: &BindingArray, trail: &[u32]) -> Mark
+    ensures { result ≡ mark_now (record { heap = heap.now; cells = cells.now; trail = trail.now; marks = [] }) }
+{
+    Mark {
+        trail: trail.len(),
+        variables: cells.len(),
+        made: heap.made(),
+    }
+}
+
+/// How many variables there were at the newest mark, or at the floor where there is none.
+#[inline(always)]
+fn protected(floor: Mark, marks: &[Mark]) -> usize
+    requires { AreNested (floor ∷ marks.now) }
+    ensures { Each (λ m. m.variables ≤ result) (floor ∷ marks.now) }
 {
     match marks.last() {
         Some(mark) => mark.variables,
-        None => 0,
+        None => floor.variables,
     }
 }
 

@@ -1,6 +1,7 @@
-use Rattle.std.proofs.Common.{◌≤◌, subst, arith}
+use Rattle.std.proofs.Common.{◌≤◌, ◌∷◌, subst, arith}
 use Rattle.au_model.specs.Terms.Each.{Each}
 use Rattle.au_model.proofs.EachLemmas.{each-more}
+use Rattle.cell_store.specs.StoreView.{StoreView}
 use Rattle.cell_store.specs.declared.mark.Mark.{Mark}
 use Rattle.cell_store.proofs.StoreLemmas.{parts, moments_below}
 use Rattle.cell_store.proofs.store.Store.if_young.Goals as goal
@@ -8,8 +9,8 @@ use Rattle.cell_store.proofs.store.Store.if_young.Goals as goal
 pub returns-then-protected-base-clause-young : goal.returns-then-protected-base-clause-young
 returns-then-protected-base-clause-young c =
     let s = c.self.inside in
-    let p = parts s.heap s.cells s.trail.items s.marks.items in
+    let p = parts s.heap s.cells s.trail.items (s.floor ∷ s.marks.items) in
     let base = c.args.base in
-    let all : Each (λ (m : Mark). m.variables ≤ c.protected.result) s.marks.items = subst (Each (λ m. m.variables ≤ c.protected.result)) c.deref.ensures.value c.protected.ensures in
-    let below = each-more (λ (m : Mark). m.variables ≤ c.protected.result) (λ m. m.variables ≤ base) (λ m l. omega (arith, l, c.if-protected-base.true)) s.marks.items all in
-    subst (λ st. Each (λ m. m.next ≤ base) st.marks) c.self.view_is (moments_below p base s.marks.items c.self.invariant.within below)
+    let all : Each (λ (m : Mark). m.variables ≤ c.protected.result) (s.floor ∷ s.marks.items) = subst (λ ms. Each (λ m. m.variables ≤ c.protected.result) (s.floor ∷ ms)) c.deref.ensures.value c.protected.ensures in
+    let below = each-more (λ (m : Mark). m.variables ≤ c.protected.result) (λ m. m.variables ≤ base) (λ m l. omega (arith, l, c.if-protected-base.true)) (s.floor ∷ s.marks.items) all in
+    subst (λ (st : StoreView). Each (λ m. m.next ≤ base) (st.floor ∷ st.marks)) c.self.view_is (moments_below p base (s.floor ∷ s.marks.items) c.self.invariant.within below)

@@ -1,40 +1,48 @@
-use Rattle.std.proofs.Common.{◌≡◌, ◌<◌, ◌∙◌, length, drop, slice_index_or, sym, ap, subst, arith}
-use Rattle.std.specs.List.{Contains}
+use Rattle.std.proofs.Common.{◌≡◌, ◌<◌, ◌≤◌, ◌∙◌, ◌∷◌, ℕ, List, length, slice_index_or, map, sym, ap, subst, arith}
 use Rattle.std.proofs.lemmas.List.{length-map}
 use Rattle.std.proofs.lemmas.Result.{IfOk-weaker}
-use Rattle.cell_store.specs.MadeBindings.{AreMadeSince, IsSince, bindings_of}
-use Rattle.cell_store.specs.StoreView.{StoreView, IsConsistentAt, moment_at, view_of}
-use Rattle.cell_store.specs.Undoing.{IsWithin}
+use Rattle.au_model.specs.Terms.Each.{Each}
+use Rattle.cell_store.specs.MadeBindings.{AreMadeSince, AreSinceMark}
+use Rattle.cell_store.specs.StoreView.{StoreView, IsConsistent, IsConsistentAt, moment_at, view_of}
+use Rattle.cell_store.specs.Undoing.{Parts, IsWithin}
 use Rattle.cell_store.specs.declared.mark.Mark.{Mark}
-use Rattle.cell_store.proofs.MadeBindingLemmas.{made_since, since_within, taken_rest}
+use Rattle.cell_store.proofs.MadeBindingLemmas.{made_since_mark}
 use Rattle.cell_store.proofs.StoreLemmas.{parts}
 use Rattle.cell_store.proofs.UndoingLemmas.{each_at, mapped_at}
 use Rattle.cell_store.proofs.store.Store.made_since.Goals as goal
 
-pub bindings_of-requires : goal.bindings_of-requires
-bindings_of-requires c = λ v h.
+there : (p : Parts) (ms : List Mark) (now : StoreView) (i : ℕ) → map (moment_at p) ms ≡ now.marks → i < length now.marks → i < length ms
+there p ms now i seen lt = let e : length ms ≡ length now.marks = sym (length-map ms (moment_at p)) ∙ ap length seen in omega (arith, e, lt)
+
+pub bindings_after-requires-clause-trail : goal.bindings_after-requires-clause-trail
+bindings_after-requires-clause-trail c =
     let s = c.self.inside in
-    let m : Mark = c.index-at.result.now in
-    let rest = taken_rest m.trail c.deref.result.now s.trail.items c.deref.ensures.value in
-    since_within s.trail.items m.trail m.variables (length s.cells) v c.self.invariant.trail
-    (subst (λ n. IsSince (drop m.trail s.trail.items) m.variables n v) c.len.ensures (subst (λ vs. IsSince vs m.variables c.len.result v) rest (c.in_ok-variables.ensures.others v (subst (λ vs. Contains vs v) c.deref-2.ensures.value h))))
+    let p = parts s.heap s.cells s.trail.items (s.floor ∷ s.marks.items) in
+    let within = there p s.marks.items c.args.self.now c.args.mark (ap (λ (st : StoreView). st.marks) c.self.view_is) c.requires in
+    let own = each_at (IsWithin p) s.marks.items c.args.mark c.index.result.now c.self.invariant.within.1 within c.index.ensures in
+    subst (λ t. c.index.result.now.trail ≤ length t) (sym c.deref.ensures.value) own.older.trail
+
+pub bindings_after-requires-clause-variables : goal.bindings_after-requires-clause-variables
+bindings_after-requires-clause-variables c =
+    let s = c.self.inside in
+    let p = parts s.heap s.cells s.trail.items (s.floor ∷ s.marks.items) in
+    let within = there p s.marks.items c.args.self.now c.args.mark (ap (λ (st : StoreView). st.marks) c.self.view_is) c.requires in
+    let own = each_at (IsWithin p) s.marks.items c.args.mark c.index.result.now c.self.invariant.within.1 within c.index.ensures in
+    own.older.variables
+
+pub bindings_after-requires-clause-there : goal.bindings_after-requires-clause-there
+bindings_after-requires-clause-there c = let s = c.self.inside in subst (Each (λ v. v < length s.cells)) (sym c.deref.ensures.value) c.self.invariant.trail
 
 pub returns : goal.returns
 returns c =
     let s = c.self.inside in
-    let p = parts s.heap s.cells s.trail.items s.marks.items in
-    let m : Mark = c.index-at.result.now in
-    let seen : length s.marks.items ≡ length c.args.self.now.marks = sym (length-map s.marks.items (moment_at p)) ∙ ap (λ (st : StoreView). length st.marks) c.self.view_is in
-    let within : c.args.mark < length s.marks.items = omega (arith, seen, c.requires) in
-    let at : m ≡ slice_index_or s.marks.items c.args.mark m = c.index-at.ensures in
-    let old = each_at (IsConsistentAt p) s.marks.items c.args.mark m c.self.invariant.at_marks within at in
-    let older = each_at (IsWithin p) s.marks.items c.args.mark m c.self.invariant.within within at in
-    IfOk-weaker c.bindings_of.result _ _ (λ bs is before after moment listed place.
-    let marked : moment ≡ moment_at p m = mapped_at (moment_at p) s.marks.items c.args.mark m before after moment within at (ap (λ (st : StoreView). st.marks) c.self.view_is ∙ listed) place in
-    let variables = c.in_ok-variables.variables.items in
-    let segment = drop m.trail s.trail.items in
-    let rest = taken_rest m.trail c.deref.result.now s.trail.items c.deref.ensures.value in
-    let made = made_since p c.self.invariant m old older variables c.in_ok-variables.ensures.rising
-    (λ v h. c.in_ok-variables.ensures.all v (subst (λ vs. IsSince vs m.variables c.len.result v) (sym rest) (subst (λ n. IsSince segment m.variables n v) (sym c.len.ensures) h)))
-    (λ v h. subst (λ n. IsSince segment m.variables n v) c.len.ensures (subst (λ vs. IsSince vs m.variables c.len.result v) rest (c.in_ok-variables.ensures.others v h))) in
-    subst (λ x. AreMadeSince x c.args.self.now bs.items) (sym marked) (subst (λ st. AreMadeSince (moment_at p m) st bs.items) c.self.view_is (subst (AreMadeSince (moment_at p m) (view_of p)) (sym (is ∙ ap (bindings_of s.cells) c.deref-2.ensures.value)) made))) c.bindings_of.ensures
+    let p = parts s.heap s.cells s.trail.items (s.floor ∷ s.marks.items) in
+    let m : Mark = c.index.result.now in
+    let seen : map (moment_at p) s.marks.items ≡ c.args.self.now.marks = ap (λ (st : StoreView). st.marks) c.self.view_is in
+    let within = there p s.marks.items c.args.self.now c.args.mark seen c.requires in
+    let old = each_at (IsConsistentAt p) s.marks.items c.args.mark m c.self.invariant.at_marks.1 within c.index.ensures in
+    let own = each_at (IsWithin p) s.marks.items c.args.mark m c.self.invariant.within.1 within c.index.ensures in
+    IfOk-weaker c.bindings_after.result _ _ (λ bs since before after moment listed place.
+    let marked : moment ≡ moment_at p m = mapped_at (moment_at p) s.marks.items c.args.mark m before after moment within c.index.ensures (seen ∙ listed) place in
+    subst (λ x. AreMadeSince x c.args.self.now bs.items) (sym marked) (subst (λ st. AreMadeSince (moment_at p m) st bs.items) c.self.view_is
+    (made_since_mark p c.self.invariant m old own bs.items (subst (λ t. AreSinceMark m t s.cells bs.items) c.deref.ensures.value since)))) c.bindings_after.ensures

@@ -1,4 +1,4 @@
-use Rattle.std.proofs.Common.{◌≡◌, sym, subst}
+use Rattle.std.proofs.Common.{◌≡◌, ◌∷◌, [], ◌∙◌, ap, sym, subst}
 use Rattle.cell_store.specs.StoreView.{IsConsistent}
 use Rattle.cell_store.specs.Undoing.{mark_now}
 use Rattle.cell_store.specs.declared.mark.Mark.{Mark}
@@ -8,6 +8,6 @@ use Rattle.cell_store.proofs.store.Store.mark.Goals as goal
 pub invariant_of-self-2 : goal.invariant_of-self-2
 invariant_of-self-2 c =
     let s = c.self.inside in
-    let m : Mark = record { trail = c.len.result; variables = c.len-2.result; made = c.made.result } in
-    let is : m ≡ mark_now (parts s.heap s.cells s.trail.items s.marks.items) = cc in
-    subst (λ ms. IsConsistent (parts s.heap s.cells s.trail.items ms)) (sym c.in_ok-push.ensures.items) (marked_parts s.heap s.cells s.trail.items s.marks.items m c.self.invariant is)
+    let m : Mark = c.mark_of.result in
+    let is : m ≡ mark_now (parts s.heap s.cells s.trail.items (s.floor ∷ s.marks.items)) = c.mark_of.ensures ∙ ap (λ t. mark_now (parts s.heap s.cells t [])) c.deref.ensures.value in
+    subst (λ ms. IsConsistent (parts s.heap s.cells s.trail.items (s.floor ∷ ms))) (sym c.in_ok-push.ensures.items) (marked_parts s.heap s.cells s.trail.items s.floor s.marks.items m c.self.invariant is)
