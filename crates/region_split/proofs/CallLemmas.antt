@@ -39,6 +39,7 @@ module _ (r : RegionView) (goal : BindingCell) (after : Position) (whole left : 
     entries = λ named. called named ∙ ap (λ es. es ++ entries_of named r) (none (length (entries_of named r)) (continuation_here named r after));
     position = tt;
     text = refl;
+    floor = refl;
     undefined = λ e. (refl, refl);
   }
 
@@ -78,6 +79,7 @@ module _ (r : RegionView) (goal : BindingCell) (after : Position) (whole left : 
           (ap (λ (st : Standing). st.entries) (sym (kept.stands named)));
       position = subst (λ i. IsOptionalPosition new i reached) (count ∙ sym (ap (λ (x : RegionView). length x.choices) kept.others)) tried.position;
       text = ap (λ (x : RegionView). x.text) kept.others;
+      floor = ap (λ (x : RegionView). x.store.floor) kept.others;
       undefined = λ e. absurd (is_found e);
     }
 
@@ -112,6 +114,7 @@ module _ (r : RegionView) (goal : BindingCell) (after : Position) (whole left : 
             (ap (λ es. es ++ entries_of named r) (others.entries (length (entries_of named r)) (continuation_here named r after)) ∙ sym (ap (λ (st : Standing). st.entries) (kept.stands named) ∙ other_entries named)));
         position = position_over r2 cut (length r2.choices) reached (let l = ap length same_choices in let m = length-append r.choices (a.choice ∷ []) in omega (arith, l, m, count)) tried.position;
         text = ap (λ (x : RegionView). x.text) kept.others ∙ ap (λ (x : RegionView). x.text) a.others;
+        floor = ap (λ (x : RegionView). x.store.floor) kept.others ∙ ap (λ (x : RegionView). x.store.floor) a.others;
         undefined = λ e. absurd (is_found e);
       }
 
@@ -138,6 +141,7 @@ only_called r new goal after n cut reached only count height tried kept = record
       (ap (λ (st : Standing). st.entries) (sym (kept.stands named)));
   position = subst (λ i. IsOptionalPosition new i reached) (count ∙ sym (ap (λ (x : RegionView). length x.choices) kept.others)) tried.position;
   text = ap (λ (x : RegionView). x.text) kept.others;
+  floor = ap (λ (x : RegionView). x.store.floor) kept.others;
   undefined = λ e. absurd (only.defined e);
 }
 

@@ -250,6 +250,7 @@ module _ (r : RegionView) (k : IsConsistentRegion r) (cs : List ChoicePoint) (c 
       many = moved_many after rest_there;
       fewer = moved_fewer after rest_there (let e = ap (takes_left r.text.heads) takes.was in let f = ap (takes_left r.text.heads) takes.is in omega (arith, e, f));
       text = refl;
+      floor = refl;
     }
 
     last_solution : is_last ≡ true → TakesSolution r gone solution c.after
@@ -260,6 +261,7 @@ module _ (r : RegionView) (k : IsConsistentRegion r) (cs : List ChoicePoint) (c 
       many = gone_many;
       fewer = gone_fewer;
       text = refl;
+      floor = refl;
     }
 
     pub takes_last_solution : is_last ≡ true → (before new : RegionView) (d : ChoicePoint) → before ≡ moved after rest_there → TakesNewest before new d → TakesSolution r new solution c.after

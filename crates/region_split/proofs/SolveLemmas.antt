@@ -56,6 +56,7 @@ module _ (r r1 r2 : RegionView) (solution : SolutionView) (after : Position) (cu
         choices = ap (λ (x : RegionView). x.choices) all.others;
         marks = all.marks;
         text = ap (λ (x : RegionView). x.text) all.others;
+        floor = all.floor;
       }
 
   module _ (solved : AreAllSolved r1 r2 (equations_here r1 solution.equations)) where
@@ -112,12 +113,13 @@ module _ (r r1 r2 : RegionView) (solution : SolutionView) (after : Position) (cu
         choices = ap (λ (x : RegionView). x.choices) put.others ∙ (ap (λ (x : RegionView). x.choices) removal.others ∙ ap (λ (x : RegionView). x.choices) all.others);
         marks = put.adds.marks ∙ (ap (λ (x : RegionView). x.store.marks) removal.others ∙ all.marks);
         text = ap (λ (x : RegionView). x.text) put.others ∙ (ap (λ (x : RegionView). x.text) removal.others ∙ ap (λ (x : RegionView). x.text) all.others);
+        floor = put.adds.floor ∙ (ap (λ (x : RegionView). x.store.floor) removal.others ∙ all.floor);
       }
 
 -- solutions in the place of a goal
 module _ (r : RegionView) (after : Position) where
   pub none_solves : (solutions : List SolutionView) → solutions ≡ [] → Solves r r solutions after None
-  none_solves solutions e = record { entries = λ named. ap (λ ss. solution_entries (length (entries_of named r)) (continuation_here named r after) (map (solution_here r) ss) ++ entries_of named r) e; position = tt; text = refl }
+  none_solves solutions e = record { entries = λ named. ap (λ ss. solution_entries (length (entries_of named r)) (continuation_here named r after) (map (solution_here r) ss) ++ entries_of named r) e; position = tt; text = refl; floor = refl }
 
   module _ (solutions : List SolutionView) (first : SolutionView) (rest : List SolutionView) (is : solutions ≡ first ∷ rest) (cut : ℕ) (count : cut ≡ length r.choices) where
     abbrev own_entry : List NamedTerm → List Entry
@@ -139,6 +141,7 @@ module _ (r : RegionView) (after : Position) where
           (ap (λ ss. solution_entries (length (entries_of named r)) (continuation_here named r after) (map (solution_here r) ss) ++ entries_of named r) e ∙ ap (λ (st : Standing). st.entries) (sym (tried.stands named)));
       position = position_over new cut (length new.choices) reached (let l = ap length tried.choices in omega (arith, l, count)) tried.position;
       text = tried.text;
+      floor = tried.floor;
     }
 
     pub first_solves : (r1 new : RegionView) (reached : Option Position) → AddsChoice r r1 (Solutions rest) after → IsPositionIn r after → TriesSolution r1 new first after cut reached → Solves r new solutions after reached
@@ -148,6 +151,7 @@ module _ (r : RegionView) (after : Position) where
           ∙ ap₂ (λ es fs. es ++ fs) (same_entry named ∙ tried.entries named) (sym (ap (λ (st : Standing). st.entries) (tried.stands named) ∙ other_entries named));
       position = position_over new cut (length new.choices) reached (let l = ap length tried.choices in let o = ap (λ (x : RegionView). length x.choices) a.others in let m = length-append r.choices (a.choice ∷ []) in omega (arith, l, o, m, count)) tried.position;
       text = tried.text ∙ ap (λ (x : RegionView). x.text) a.others;
+      floor = tried.floor ∙ ap (λ (x : RegionView). x.store.floor) a.others;
     }
       where
         store : r1.store ≡ with_mark r.store

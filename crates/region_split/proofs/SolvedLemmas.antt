@@ -31,6 +31,7 @@ stays_twice a b c p q = record {
   stands = λ named. q.stands named ∙ p.stands named;
   position = λ cut x i. q.position cut x (p.position cut x i);
   marks = q.marks ∙ p.marks;
+  floor = q.floor ∙ p.floor;
   others = q.others ∙ ap (λ (x : RegionView). record x { store = c.store }) p.others;
 }
 
@@ -119,7 +120,7 @@ module _ (r0 r : RegionView) (done : Equations) (solved : AreAllSolved r0 r done
 
 -- no text was added
 pub nothing_added : (st : StoreView) → AddsText st st
-nothing_added st = record { keeps = keeps_same (text_in st); values = λ value there. (there, refl); program = refl; bound = refl; next = refl; marks = refl; at_marks = all_kept st.marks }
+nothing_added st = record { keeps = keeps_same (text_in st); values = λ value there. (there, refl); program = refl; bound = refl; next = refl; floor = refl; marks = refl; at_marks = all_kept st.marks }
   where
     all_kept : (ms : List Moment) → Each (λ m. Keeps (text_at st m) (text_at st m)) ms
     all_kept [] = tt
@@ -134,6 +135,7 @@ adds_twice a b c p q = record {
   bound = q.bound ∙ p.bound;
   next = q.next ∙ p.next;
   marks = q.marks ∙ p.marks;
+  floor = q.floor ∙ p.floor;
   at_marks = all_twice a.marks p.at_marks (subst (Each (λ m. Keeps (text_at b m) (text_at c m))) p.marks q.at_marks);
 }
   where

@@ -6,7 +6,7 @@ use Rattle.au_model.specs.Terms.Substitutions.{Substitution, resolve}
 use Rattle.run_model.specs.Machine.Items.{Item, Continuation, resolve_continuation, with_next}
 use Rattle.run_model.specs.Machine.Entries.{PlainEntry, FindallEntry, CatchEntry, solution_entries}
 use Rattle.clause_compile.specs.Places.{CodeView, Keeps}
-use Rattle.cell_store.specs.StoreView.{Moment, StoreView, AddsText, text_in, with_numbers}
+use Rattle.cell_store.specs.StoreView.{Moment, StoreView, AddsText, over_floor, text_in, with_numbers}
 use Rattle.cell_store.proofs.SubstitutionLemmas.{value_kept}
 use Rattle.clause_index.specs.Cursors.{numbers_left}
 use Rattle.region_split.specs.Candidates.{entries_of_clauses}
@@ -29,11 +29,20 @@ stays_further r n = record {
   stands = λ named. refl;
   position = λ cut p i. record { frame = i.frame; scoped = scoped_further (text_in r.store) r.store.now.next (r.store.now.next + n) cut (left_here r p) (omega arith) i.scoped; marked = i.marked };
   marks = refl;
+  floor = refl;
   others = refl;
 }
 
 pub stays_same : (r : RegionView) → StaysStanding r r
-stays_same r = record { stands = λ named. refl; position = λ cut p i. i; marks = refl; others = refl }
+stays_same r = record { stands = λ named. refl; position = λ cut p i. i; marks = refl; floor = refl; others = refl }
+
+-- the state of the store becomes its floor
+pub floored_region : (r : RegionView) → IsConsistentRegion r → IsConsistentRegion (record r { store = over_floor r.store })
+floored_region r k = record { program = k.program; choices = k.choices; frames = k.frames; older = k.older; marked = k.marked; ends = k.ends }
+
+pub none_of_them : (ms : List Moment) → length ms ≡ 0 → ms ≡ []
+none_of_them [] e = refl
+none_of_them (m ∷ ms) e = absurd (omega (arith, e))
 
 -- what is left at a position stays where text was added
 pub goes_on_there : (r new : RegionView) → AddsText r.store new.store → StaysStanding r new → (cut : ℕ) (p : Position) → IsPositionOver r cut p → (named : List NamedTerm) → continuation_here named new p ≡ continuation_here named r p
@@ -125,7 +134,7 @@ module _ (r : RegionView) (k : IsConsistentRegion r) (new : StoreView) (adds : A
   }
 
   pub text_added : StaysStanding r added
-  text_added = record { stands = stands; position = position; marks = adds.marks; others = refl }
+  text_added = record { stands = stands; position = position; marks = adds.marks; floor = adds.floor; others = refl }
 
   pub positions_kept : KeepsPositions r added (length r.frames)
   positions_kept = record {

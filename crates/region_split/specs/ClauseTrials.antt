@@ -48,4 +48,5 @@ pub record Calls (old new : RegionView) (goal : BindingCell) (after : Position) 
   pub entries : (named : List NamedTerm) → called_entries named old goal after ≡ entries_at named new reached ++ entries_of named new
   pub position : IsOptionalPosition new (length new.choices) reached
   pub text : new.text ≡ old.text
+  pub floor : new.store.floor ≡ old.store.floor
   pub undefined : is_defined old.text.clauses (name_of (meaning old.store goal)) (argument_count (meaning old.store goal)) ≡ false → (reached ≡ None) × (new ≡ old)

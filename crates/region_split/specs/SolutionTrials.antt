@@ -52,6 +52,7 @@ pub record TriesSolution (old new : RegionView) (solution : SolutionView) (after
   pub choices : new.choices ≡ old.choices
   pub marks : new.store.marks ≡ old.store.marks
   pub text : new.text ≡ old.text
+  pub floor : new.store.floor ≡ old.store.floor
 
 abbrev pub AreSolutionsHere : RegionView → List SolutionView → Type 0
 AreSolutionsHere r solutions = Each (IsSolutionHere r) solutions
@@ -61,3 +62,4 @@ pub record Solves (old new : RegionView) (solutions : List SolutionView) (after 
   pub entries : (named : List NamedTerm) → after_reply (Solutions (map (solution_here old) solutions)) (continuation_here named old after) (entries_of named old) ≡ entries_at named new reached ++ entries_of named new
   pub position : IsOptionalPosition new (length new.choices) reached
   pub text : new.text ≡ old.text
+  pub floor : new.store.floor ≡ old.store.floor

@@ -157,6 +157,7 @@ pub record TakesSolution (old new : RegionView) (solution : SolutionView) (after
   pub many : length old.choices - 1 ≤ length new.choices
   pub fewer : all_takes_left new.text.heads new.choices < all_takes_left old.text.heads old.choices
   pub text : new.text ≡ old.text
+  pub floor : new.store.floor ≡ old.store.floor
 
 -- there is a findall over so many choice points
 abbrev pub HasFindallAt : RegionView → ℕ → Type 0
@@ -170,9 +171,10 @@ pub record AddsResult (old new : RegionView) (over : ℕ) (t : Term) : Type 0 wh
   pub many : length new.choices ≡ length old.choices
   pub others : new ≡ record old { choices = new.choices }
 
--- the store went on from the same marks: the choice points stand for what they stood for, and positions stay
+-- the store went on from the same marks and floor: the choice points stand for what they stood for, and positions stay
 pub record StaysStanding (old new : RegionView) : Type 0 where
   pub stands : (named : List NamedTerm) → standing named new ≡ standing named old
   pub position : (cut : ℕ) (p : Position) → IsPositionOver old cut p → IsPositionOver new cut p
   pub marks : new.store.marks ≡ old.store.marks
+  pub floor : new.store.floor ≡ old.store.floor
   pub others : new ≡ record old { store = new.store }

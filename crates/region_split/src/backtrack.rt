@@ -15,6 +15,7 @@ impl Region {
         ensures resumes { IfOk result (Resumes self.old self.new) }
         ensures steps { IfOk result (TakesFreeSteps self.old self.new) }
         ensures text { OnOk result (self.new.text ≡ self.old.text) }
+        ensures floor { OnOk result (self.new.store.floor ≡ self.old.store.floor) }
     {
         while self.height() > 0 {
             match self.take_next()? {
@@ -30,6 +31,7 @@ impl Region {
         requires { 0 < length self.old.choices }
         ensures takes { IfOk result (TakesNext self.old self.new) }
         ensures text { OnOk result (self.new.text ≡ self.old.text) }
+        ensures floor { OnOk result (self.new.store.floor ≡ self.old.store.floor) }
     {
         let cut = self.scope()? - 1;
         if let Some(trial) = self.next_clause() {

@@ -3,7 +3,7 @@ ghost use Rattle.std.specs.Prelude.{◌≡◌, ◌<◌, ◌≤◌, ◌∷◌, If
 ghost use Rattle.std.specs.Arc.{arc_value};
 ghost use Rattle.au_term.specs.Term.{var_bound};
 ghost use Rattle.cell_store.specs.ListGoals.{list_goal};
-ghost use Rattle.cell_store.specs.StoreView.{AddsText, BindsFurther, CanBeBound, IsValueIn, meaning, text_in, value_term, with_numbers};
+ghost use Rattle.cell_store.specs.StoreView.{AddsText, BindsFurther, CanBeBound, IsValueIn, meaning, text_in, value_term, with_numbers, over_floor};
 ghost use Rattle.run_model.specs.Programs.Clauses.{is_defined};
 ghost use Rattle.clause_compile.specs.AtomNumbers.{name_at};
 ghost use Rattle.cell_store.specs.UnificationSteps.{IsUnified, OnlyBinds};
@@ -118,6 +118,14 @@ impl Region {
             Ok(count) => Ok(count),
             Err(_) => Err(NoMemory),
         }
+    }
+
+    /// Takes the state of the store as its floor, where there is no choice point.
+    pub fn set_floor(&mut self)
+        requires { self.old.choices ≡ [] }
+        ensures { self.new ≡ record self.old { store = over_floor self.old.store } }
+    {
+        self.store.set_floor();
     }
 
     /// The position at which nothing is left to do.

@@ -17,10 +17,10 @@ returns-clause-steps c =
 pub loop-self-preserved : goal.loop-self-preserved
 loop-self-preserved c =
     let takes = subst (TakesNext c.loop-self.self c.take_next.new.self) c.in-None.is c.in_ok-next.ensures.takes in
-    ((λ named. c.loop-self.invariant.0 named ∙ takes.1 named), c.in_ok-next.ensures.text ∙ c.loop-self.invariant.1)
+    ((λ named. c.loop-self.invariant.0 named ∙ takes.1 named), (c.in_ok-next.ensures.text ∙ c.loop-self.invariant.1.0, c.in_ok-next.ensures.floor ∙ c.loop-self.invariant.1.1))
 
 pub loop-self-init : goal.loop-self-init
-loop-self-init c = ((λ named. refl), refl)
+loop-self-init c = ((λ named. refl), (refl, refl))
 
 pub returns-in-Some-clause-resumes : goal.returns-in-Some-clause-resumes
 returns-in-Some-clause-resumes c =
