@@ -106,12 +106,13 @@ pub record IsGoingAhead (old r : RegionView) (start : Option Position) (now : Re
   pub same : (named : List NamedTerm) → take_free_steps (entries_at named old start ++ entries_of named old) ≡ take_free_steps (resumed_entries named r now)
   pub there : IsResumed r now
   pub text : r.text ≡ old.text
+  pub floor : r.store.floor ≡ old.store.floor
 
 pub going_at : (r : RegionView) (start : Option Position) (p : Position) → start ≡ Some p → IsPositionIn r p → IsGoingAhead r r start (Resumes.At p)
-going_at r start p e i = record { same = λ named. ap (λ o. take_free_steps (entries_at named r o ++ entries_of named r)) e; there = i; text = refl }
+going_at r start p e i = record { same = λ named. ap (λ o. take_free_steps (entries_at named r o ++ entries_of named r)) e; there = i; text = refl; floor = refl }
 
-pub going_back : (old r : RegionView) (start : Option Position) (now : Resumed) → start ≡ None → HasResumed old r now → TakesFreeSteps old r now → r.text ≡ old.text → IsGoingAhead old r start now
-going_back old r start now e resumes steps text = record { same = λ named. ap (λ o. take_free_steps (entries_at named old o ++ entries_of named old)) e ∙ steps named; there = resumes.there; text = text }
+pub going_back : (old r : RegionView) (start : Option Position) (now : Resumed) → start ≡ None → HasResumed old r now → TakesFreeSteps old r now → r.text ≡ old.text → r.store.floor ≡ old.store.floor → IsGoingAhead old r start now
+going_back old r start now e resumes steps text floor = record { same = λ named. ap (λ o. take_free_steps (entries_at named old o ++ entries_of named old)) e ∙ steps named; there = resumes.there; text = text; floor = floor }
 
 by_item : (named : List NamedTerm) (r : RegionView) (p : Position) (item : FrameItem) (g : GoalPlace) → is_goal_item item ≡ true → without_marks (continuation_here named r p).items ≡ items_with_goal named r item g → take_free_steps (position_entry named r p ∷ entries_of named r) ≡ goal_entry named r item g ∷ entries_of named r
 by_item named r p (Goal value) g k e = ap (λ is. plain_free_step is (continuation_here named r p) (entries_of named r) (free_steps_within (length (entries_of named r)))) e
@@ -178,8 +179,8 @@ module _ (old r : RegionView) (start : Option Position) (now : Resumed) (w : IsG
 
   -- a result was collected, and what the choice points have left goes on
   module _ (p : Position) (value : BindingCell) (over : ℕ) (e : now ≡ Resumes.At p) (h : HasResultFirst r p value over) (r1 r2 : RegionView) (collects : CollectsResult r r1 value over) (next : Resumed) (resumes : HasResumed r1 r2 next) where
-    pub collected_on : TakesFreeSteps r1 r2 next → r2.text ≡ r1.text → IsGoingAhead old r2 start next
-    collected_on steps text = record {
+    pub collected_on : TakesFreeSteps r1 r2 next → r2.text ≡ r1.text → r2.store.floor ≡ r1.store.floor → IsGoingAhead old r2 start next
+    collected_on steps text floor = record {
       same = λ named.
           w.same named
           ∙ (ap (λ n. take_free_steps (resumed_entries named r n)) e
@@ -187,6 +188,7 @@ module _ (old r : RegionView) (start : Option Position) (now : Resumed) (w : IsG
           ∙ (ap take_free_steps (sym (collects.entries named)) ∙ steps named)));
       there = resumes.there;
       text = text ∙ (collects.text ∙ w.text);
+      floor = floor ∙ (collects.floor ∙ w.floor);
     }
 
     pub fewer_entries : length (resumed_entries [] r2 next) < length (resumed_entries [] r now)

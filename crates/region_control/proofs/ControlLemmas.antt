@@ -93,6 +93,9 @@ module _ (r new : RegionView) (alternatives : Alternatives) (other : Position) (
     pub opened_text : last.text ≡ r.text
     opened_text = ap (λ (z : RegionView). z.text) y.others ∙ ap (λ (z : RegionView). z.text) a.others
 
+    pub opened_floor : last.store.floor ≡ r.store.floor
+    opened_floor = ap (λ (z : RegionView). z.store.floor) y.others ∙ ap (λ (z : RegionView). z.store.floor) a.others
+
 -- the newest choice point
 at_end : (P : ChoicePoint → Type 0) (xs : List ChoicePoint) (c : ChoicePoint) (i : ℕ) → i ≡ length xs → P c → IsSomeAnd (slice_get (xs ++ c ∷ []) i) P
 at_end P [] c zero e p = p
@@ -143,6 +146,9 @@ module _ (r0 r r1 last : RegionView) (is js : List ℕ → List (Item ℕ)) (mor
   pub branched_text : last.text ≡ r0.text
   branched_text = opened_text r r1 Elsewhere other a last js more g.after p y after_in ∙ ap (λ (z : RegionView). z.text) x.others
 
+  pub branched_floor : last.store.floor ≡ r0.store.floor
+  branched_floor = opened_floor r r1 Elsewhere other a last js more g.after p y after_in ∙ ap (λ (z : RegionView). z.store.floor) x.others
+
 -- either of two lists of goals
 pub either_goals : (r0 r r1 last : RegionView) (gs others : List Term) (g : GoalPlace) (other p : Position) → IsGoalPlace r0 g → PutsBefore r0 r (goals_by others g.cut) g.cut g.after other → AddsChoice r r1 Elsewhere other → PutsBefore r1 last (goals_by gs g.cut) g.cut g.after p
     → Controls r0 last (EitherOf gs others) g p
@@ -153,6 +159,7 @@ either_goals r0 r r1 last gs others g other p i x a y = record {
       (first_heights r0 r r1 last (goals_by others g.cut) (goals_by gs g.cut) g.cut g other p i x a y named g.cut i.scope);
   position = branched_position r0 r r1 last (goals_by others g.cut) (goals_by gs g.cut) g.cut g other p i x a y (let s = i.scope in omega (arith, s));
   text = branched_text r0 r r1 last (goals_by others g.cut) (goals_by gs g.cut) g.cut g other p i x a y;
+  floor = branched_floor r0 r r1 last (goals_by others g.cut) (goals_by gs g.cut) g.cut g other p i x a y;
 }
 
 -- a condition
@@ -183,6 +190,7 @@ module _ (r0 r r1 r2 r3 last : RegionView) (condition thens others : List Term) 
         ∙ ap₂ (entries_by named (suc (length (entries_of named r0)))) second third);
     position = branched_position r0 r r1 last (goals_by others g.cut) all inner g other s i x a whole (let m = added_many r r1 Elsewhere other a in let k = put_many r0 r (goals_by others g.cut) g.cut g.after other x in omega (arith, m, k, inner_is));
     text = branched_text r0 r r1 last (goals_by others g.cut) all inner g other s i x a whole;
+    floor = branched_floor r0 r r1 last (goals_by others g.cut) all inner g other s i x a whole;
   }
 
 -- a position before which something was put, among all choice points
@@ -222,6 +230,9 @@ module _ (r r1 r2 last : RegionView) (alternatives : Alternatives) (goal : Bindi
   pub guarded_text : last.text ≡ r.text
   guarded_text = opened_text r r1 alternatives g.after a last guarded inner g.after q whole_guarded (place_in r g i)
 
+  pub guarded_floor : last.store.floor ≡ r.store.floor
+  guarded_floor = opened_floor r r1 alternatives g.after a last guarded inner g.after q whole_guarded (place_in r g i)
+
 -- what is left after a goal stays over a new choice point
 pub place_over : (r r1 : RegionView) (alternatives : Alternatives) (g : GoalPlace) (inner : ℕ) → IsGoalPlace r g → inner ≡ length r1.choices → AddsChoice r r1 alternatives g.after → IsPositionOver r1 inner g.after
 place_over r r1 alternatives g inner i e a =
@@ -239,6 +250,7 @@ caught r r1 r2 last goal catcher recovery inner g p q i inner_is height a y z = 
       ∙ ap₂ (λ n k. PlainEntry (before (GoalItem (call_of (meaning r.store goal)) n ∷ CatchMark k ∷ []) (continuation_here named r g.after)) ∷ CatchEntry (meaning r.store catcher) (meaning r.store recovery) (continuation_here named r g.after) ∷ entries_of named r) above own;
   position = guarded_position r r1 r2 last (Catch catcher recovery) goal CatchEnd inner g p q i inner_is height a y z;
   text = guarded_text r r1 r2 last (Catch catcher recovery) goal CatchEnd inner g p q i inner_is height a y z;
+  floor = guarded_floor r r1 r2 last (Catch catcher recovery) goal CatchEnd inner g p q i inner_is height a y z;
 }
 
 pub all_found : (r r1 r2 last : RegionView) (template goal list : BindingCell) (results : ResultsView) (inner : ℕ) (g : GoalPlace) (p q : Position) → IsGoalPlace r g → results ≡ record { terms = []; next = r.store.now.next } → inner ≡ length r1.choices
@@ -256,4 +268,5 @@ all_found r r1 r2 last template goal list results inner g p q i none inner_is he
       ∙ ap₂ (entries_by (suc (length (entries_of named r))) (length (entries_of named r))) found none);
   position = guarded_position r r1 r2 last (Findall list results) goal (Collect template) inner g p q i inner_is height a y z;
   text = guarded_text r r1 r2 last (Findall list results) goal (Collect template) inner g p q i inner_is height a y z;
+  floor = guarded_floor r r1 r2 last (Findall list results) goal (Collect template) inner g p q i inner_is height a y z;
 }

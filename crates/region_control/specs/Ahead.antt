@@ -116,6 +116,7 @@ pub record LiesAhead (old new : RegionView) (start : Option Position) (a : Ahead
 pub record CollectsResult (old new : RegionView) (value : BindingCell) (over : ℕ) : Type 0 where
   pub entries : (named : List NamedTerm) → entries_of named new ≡ collected (height_of_cut (heights_of named old) over) (meaning old.store value) (entries_of named old)
   pub text : new.text ≡ old.text
+  pub floor : new.store.floor ≡ old.store.floor
 
 -- the list of a findall is unified with its results next
 abbrev pub findall_end_entries : List NamedTerm → RegionView → BindingCell → ResultsView → Position → List Entry

@@ -19,3 +19,4 @@ pub record Controls (old new : RegionView) (form : ControlForm) (g : GoalPlace) 
   pub entries : (named : List NamedTerm) → position_entry named new p ∷ entries_of named new ≡ after_control form (height_of_cut (heights_of named old) g.cut) (continuation_here named old g.after) (entries_of named old)
   pub position : IsPositionIn new p
   pub text : new.text ≡ old.text
+  pub floor : new.store.floor ≡ old.store.floor

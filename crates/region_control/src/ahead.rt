@@ -61,6 +61,7 @@ pub fn look_ahead(
     requires { IsOptionalPosition region.old (length region.old.choices) start }
     ensures ahead { IfOk result (LiesAhead region.old region.new start) }
     ensures text { OnOk result (region.new.text ≡ region.old.text) }
+    ensures floor { OnOk result (region.new.store.floor ≡ region.old.store.floor) }
 {
     match goal_at(region, start)? {
         Some((item, place)) => Ok(Ahead::Goal(item, place)),
@@ -127,6 +128,7 @@ fn look_further(
     requires { IsOptionalPosition region.old (length region.old.choices) start }
     ensures ahead { IfOk result (LiesAhead region.old region.new start) }
     ensures text { OnOk result (region.new.text ≡ region.old.text) }
+    ensures floor { OnOk result (region.new.store.floor ≡ region.old.store.floor) }
 {
     let mut now = match start {
         Some(position) => Resumed::At(position),
@@ -239,6 +241,7 @@ fn end_findall(
     requires { IsResumed region.old (ResumedValue.FindallDone list results.now after) }
     ensures ends { IfOk result (EndsFindall region.old region.new list results.now after) }
     ensures text { OnOk result (region.new.text ≡ region.old.text) }
+    ensures floor { OnOk result (region.new.store.floor ≡ region.old.store.floor) }
 {
     let next = VarNo::from(region.store().next());
     let Ok(taken) = u32::try_from(results.next() - next) else {

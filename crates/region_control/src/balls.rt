@@ -30,6 +30,7 @@ pub fn throw(
     requires { IsPositionIn region.old position }
     ensures lands { IfOk result (Lands region.old region.new ball.now position) }
     ensures text { OnOk result (region.new.text ≡ region.old.text) }
+    ensures floor { OnOk result (region.new.store.floor ≡ region.old.store.floor) }
 {
     let mut mark = first_catch(region, position)?;
     while let Some(over) = mark {
@@ -81,6 +82,7 @@ fn take_catch(region: &mut Region, over: u32) -> Result<Catch, NoMemory>
     requires { IsCatchAt region.old.choices over }
     ensures taken { IfOk result (TakesCatch region.old region.new over) }
     ensures text { OnOk result (region.new.text ≡ region.old.text) }
+    ensures floor { OnOk result (region.new.store.floor ≡ region.old.store.floor) }
 {
     region.cut_to(over as usize + 1);
     let ChoicePoint {
@@ -111,6 +113,7 @@ fn recover(
     requires after { IsPositionIn region.old catch.after }
     ensures recovers { IfOk result (RecoversOr region.old region.new ball.now catch) }
     ensures text { OnOk result (region.new.text ≡ region.old.text) }
+    ensures floor { OnOk result (region.new.store.floor ≡ region.old.store.floor) }
 {
     let (copy, takes) = copy_term(alloc, ball, VarNo::from(region.store().next()))?;
     let Ok(takes) = u32::try_from(takes) else {

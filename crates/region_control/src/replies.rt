@@ -37,6 +37,7 @@ pub fn raise(
     requires { IsGoalPlace region.old place }
     ensures comes { IfOk result (LeavesOutcome region.old region.new (Replies (Ball ball.now)) place) }
     ensures text { OnOk result (region.new.text ≡ region.old.text) }
+    ensures floor { OnOk result (region.new.store.floor ≡ region.old.store.floor) }
 {
     match throw(region, alloc, ball, place.after)? {
         Some(position) => Ok(AfterGoal::At(position)),
@@ -59,6 +60,7 @@ pub fn raise_fault(
     requires { IsGoalPlace region.old place }
     ensures comes { IfOk result (LeavesOutcome region.old region.new (Replies (Ball (error_term (error_term_of fault.now) name.now arity))) place) }
     ensures text { OnOk result (region.new.text ≡ region.old.text) }
+    ensures floor { OnOk result (region.new.store.floor ≡ region.old.store.floor) }
 {
     let ball = fault.term(alloc, name, arity)?;
     raise(region, alloc, &ball, place)

@@ -22,11 +22,11 @@ loop-mark-preserved c =
     let there = c.in_ok-position.ensures.text in (
       further_down c.args.region.now c.loop-mark.region c.take_catch.new.region c.args.ball.now c.args.position c.loop-mark.mark c.in-Some.over c.in_ok-catch.catch c.in-Some.is c.loop-mark.invariant.0 c.in_ok-catch.ensures.taken c.recover.new.region fails.0 fails.1
           c.in_ok-mark-in-None.mark c.in_ok-mark-in-None.ensures,
-      there ∙ (step ∙ c.loop-mark.invariant.1),
+      (there ∙ (step ∙ c.loop-mark.invariant.1.0), c.in_ok-position.ensures.floor ∙ (c.in_ok-catch.ensures.floor ∙ c.loop-mark.invariant.1.1)),
     )
 
 pub returns-clause-lands : goal.returns-clause-lands
 returns-clause-lands c = none_takes c.args.region.now c.loop-mark.region c.cut_to.new.self c.args.ball.now c.args.position c.loop-mark.mark c.in_default.is c.loop-mark.invariant.0 c.cut_to.ensures
 
 pub loop-mark-init : goal.loop-mark-init
-loop-mark-init c = (unwinding_begun c.args.region.now c.args.ball.now c.args.position c.in_ok-mark.mark c.in_ok-mark.ensures, refl)
+loop-mark-init c = (unwinding_begun c.args.region.now c.args.ball.now c.args.position c.in_ok-mark.mark c.in_ok-mark.ensures, (refl, refl))
