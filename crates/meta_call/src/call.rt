@@ -38,6 +38,7 @@ pub fn call_goal(
     ensures comes { IfOk result (LeavesOutcome region.old region.new
         (call_outcome (further.count + 1) (meaning region.old.store callee) (argument_terms region.old.store further)) place) }
     ensures text { OnOk result (region.new.text ≡ region.old.text) }
+    ensures floor { OnOk result (region.new.store.floor ≡ region.old.store.floor) }
 {
     let callee = region.store().dereference(callee);
     let arity = further.count + 1;
@@ -63,6 +64,7 @@ pub fn call_arguments(
     ensures comes { IfOk result (LeavesOutcome region.old region.new
         (call_outcome arguments.count (term_at 0 (argument_terms region.old.store arguments)) (drop_terms 1 (argument_terms region.old.store arguments))) place) }
     ensures text { OnOk result (region.new.text ≡ region.old.text) }
+    ensures floor { OnOk result (region.new.store.floor ≡ region.old.store.floor) }
 {
     let callee = argument(region.store(), arguments, 0);
     call_goal(region, alloc, callee, rest_of(arguments), place)
@@ -127,6 +129,7 @@ fn called(
     requires place { IsGoalPlace region.old place }
     ensures comes { IfOk result (LeavesOutcome region.old region.new (called arity (meaning region.old.store goal) (called_goals (meaning region.old.store goal))) place) }
     ensures text { OnOk result (region.new.text ≡ region.old.text) }
+    ensures floor { OnOk result (region.new.store.floor ≡ region.old.store.floor) }
 {
     if is_own_body(alloc, region.store(), goal)? {
         let position = call(region, alloc, goal, place)?;
@@ -147,6 +150,7 @@ fn called_other(
     requires place { IsGoalPlace region.old place }
     ensures comes { IfOk result (LeavesOutcome region.old region.new (called arity (meaning region.old.store goal) (called_goals (meaning region.old.store goal))) place) }
     ensures text { OnOk result (region.new.text ≡ region.old.text) }
+    ensures floor { OnOk result (region.new.store.floor ≡ region.old.store.floor) }
 {
     // The proof reads off that no binding changes the goal again.
     let _next = region.store().next();
@@ -176,6 +180,7 @@ fn raise_call(
     requires { IsGoalPlace region.old place }
     ensures comes { IfOk result (LeavesOutcome region.old region.new (raises (error_term_of fault.now) (codes "call") arity) place) }
     ensures text { OnOk result (region.new.text ≡ region.old.text) }
+    ensures floor { OnOk result (region.new.store.floor ≡ region.old.store.floor) }
 {
     let name = Atom::ascii(alloc, "call")?;
     raise_fault(region, alloc, fault, &name, arity, place)

@@ -45,11 +45,13 @@ module _ (r marked : RegionView) (alternatives : Alternatives) (after : Position
     store_is =
         let program : bound.store.program ≡ r.store.program = ap (λ (s : StoreView). s.program) binds.others ∙ ap (λ (s : StoreView). s.program) marked_store in
         let names : bound.store.names ≡ r.store.names = ap (λ (s : StoreView). s.names) binds.others ∙ ap (λ (s : StoreView). s.names) marked_store in
+        let floor : bound.store.floor ≡ r.store.floor = ap (λ (s : StoreView). s.floor) binds.others ∙ ap (λ (s : StoreView). s.floor) marked_store in
         takes.store
-        ∙ (ap (λ p. (let s : StoreView = record { program = p; names = bound.store.names; now = new.store.now; marks = new.store.marks } in s)) program
-        ∙ (ap (λ n. (let s : StoreView = record { program = r.store.program; names = n; now = new.store.now; marks = new.store.marks } in s)) names
-        ∙ (ap (λ m. (let s : StoreView = record { program = r.store.program; names = r.store.names; now = m; marks = new.store.marks } in s)) marks_are.1
-        ∙ ap (λ ms. (let s : StoreView = record { program = r.store.program; names = r.store.names; now = r.store.now; marks = ms } in s)) marks_are.0)))
+        ∙ (ap (λ p. (let s : StoreView = record bound.store { program = p; now = new.store.now; marks = new.store.marks } in s)) program
+        ∙ (ap (λ n. (let s : StoreView = record { program = r.store.program; names = n; now = new.store.now; floor = bound.store.floor; marks = new.store.marks } in s)) names
+        ∙ (ap (λ f. (let s : StoreView = record { program = r.store.program; names = r.store.names; now = new.store.now; floor = f; marks = new.store.marks } in s)) floor
+        ∙ (ap (λ m. (let s : StoreView = record r.store { now = m; marks = new.store.marks } in s)) marks_are.1
+        ∙ ap (λ ms. (let s : StoreView = record r.store { marks = ms } in s)) marks_are.0))))
 
     pub undone : new ≡ r
     undone =

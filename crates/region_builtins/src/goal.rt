@@ -41,6 +41,7 @@ fn equate(
     requires place { IsGoalPlace region.old place }
     ensures comes { IfOk result (AnswersIn region.old region.new (equal (meaning region.old.store left) (meaning region.old.store right)) place) }
     ensures text { OnOk result (region.new.text ≡ region.old.text) }
+    ensures floor { OnOk result (region.new.store.floor ≡ region.old.store.floor) }
 {
     if region.unify(left, right)? {
         Ok(AfterGoal::At(place.after))
@@ -61,6 +62,7 @@ fn equate_both(
     requires place { IsGoalPlace region.old place }
     ensures comes { IfOk result (AnswersIn region.old region.new (one_solution (pair_meant region.old.store first ∷ pair_meant region.old.store second ∷ [])) place) }
     ensures text { OnOk result (region.new.text ≡ region.old.text) }
+    ensures floor { OnOk result (region.new.store.floor ≡ region.old.store.floor) }
 {
     if !region.unify(first.0, first.1)? {
         return Ok(AfterGoal::Failed);
@@ -83,6 +85,7 @@ fn equate_ordered(
     requires place { IsGoalPlace region.old place }
     ensures comes { IfOk result (AnswersIn region.old region.new (equal (meaning region.old.store value) (AtomTerm (order_symbol ordering))) place) }
     ensures text { OnOk result (region.new.text ≡ region.old.text) }
+    ensures floor { OnOk result (region.new.store.floor ≡ region.old.store.floor) }
 {
     let term = Shared::from_term(alloc, atom(alloc, symbol_of(ordering))?)?;
     let symbol = region.copy_in(&term)?;
@@ -120,6 +123,7 @@ fn differ(
     requires place { IsGoalPlace region.old place }
     ensures comes { IfOk result (AnswersIn region.old region.new (apart_answer (meaning region.old.store left) (meaning region.old.store right)) place) }
     ensures text { OnOk result (region.new.text ≡ region.old.text) }
+    ensures floor { OnOk result (region.new.store.floor ≡ region.old.store.floor) }
 {
     if are_apart(region, left, right, place.after)? {
         Ok(AfterGoal::At(place.after))
@@ -140,6 +144,7 @@ fn raise_error(
     requires place { IsGoalPlace region.old place }
     ensures comes { IfOk result (AnswersFor region.old region.new form (Err (error_term_of fault.now)) place) }
     ensures text { OnOk result (region.new.text ≡ region.old.text) }
+    ensures floor { OnOk result (region.new.store.floor ≡ region.old.store.floor) }
 {
     let name = region.store().name(form.name).share()?;
     raise_fault(region, alloc, fault, &name, form.arguments.count, place)
@@ -160,6 +165,7 @@ pub fn builtin_goal(
     requires place { IsGoalPlace region.old place }
     ensures comes { IfOk result (AnswersFor region.old region.new form (answer_of builtin (argument_terms region.old.store form.arguments) region.old.store.now.next) place) }
     ensures text { OnOk result (region.new.text ≡ region.old.text) }
+    ensures floor { OnOk result (region.new.store.floor ≡ region.old.store.floor) }
 {
     if let Some((left, right)) = values_made_one(region.store(), builtin, form.arguments) {
         return equate(region, left, right, place);
@@ -186,6 +192,7 @@ fn answered_goal(
     requires place { IsGoalPlace region.old place }
     ensures comes { IfOk result (AnswersFor region.old region.new form (answer_of builtin (argument_terms region.old.store form.arguments) region.old.store.now.next) place) }
     ensures text { OnOk result (region.new.text ≡ region.old.text) }
+    ensures floor { OnOk result (region.new.store.floor ≡ region.old.store.floor) }
 {
     match quick_answer(alloc, region.store(), builtin, form.arguments)? {
         QuickAnswer::Holds(true) => Ok(AfterGoal::At(place.after)),
@@ -217,6 +224,7 @@ fn resolved_goal(
     requires place { IsGoalPlace region.old place }
     ensures comes { IfOk result (AnswersFor region.old region.new form (answer_of builtin (argument_terms region.old.store form.arguments) region.old.store.now.next) place) }
     ensures text { OnOk result (region.new.text ≡ region.old.text) }
+    ensures floor { OnOk result (region.new.store.floor ≡ region.old.store.floor) }
 {
     let arguments = resolved_arguments(alloc, region.store(), form.arguments)?;
     let next = VarNo::from(region.store().next());

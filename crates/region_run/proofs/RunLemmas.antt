@@ -147,12 +147,14 @@ pub record IsRunning (old r : RegionView) (start next : Option Position) (taken 
       → run_on old.text.clauses taken (with_free_steps st) ≡ with_free_steps (record st { entries = entries_at named r next ++ entries_of named r; inferences = st.inferences + taken })
   pub there : IsOptionalPosition r (length r.choices) next
   pub text : r.text ≡ old.text
+  pub floor : r.store.floor ≡ old.store.floor
 
 pub running_begun : (r : RegionView) (start : Option Position) → IsOptionalPosition r (length r.choices) start → IsRunning r r start start 0
 running_begun r start i = record {
   run = λ named st e k. ap₂ (λ es n. with_free_steps (record st { entries = es; inferences = n })) e (let z : st.inferences ≡ st.inferences + 0 = omega arith in z);
   there = i;
   text = refl;
+  floor = refl;
 }
 
 -- where no more goal is taken
@@ -194,8 +196,10 @@ pub record TakesFirst (r r2 : RegionView) (next : Option Position) (i : FrameIte
   pub between : RegionView
   pub ahead : LiesAhead r between next (ahead.Goal i g)
   pub kept : between.text ≡ r.text
+  pub stayed : between.store.floor ≡ r.store.floor
   pub infers : InfersItem between r2 i g after
   pub text : r2.text ≡ between.text
+  pub floor : r2.store.floor ≡ between.store.floor
 
 -- one more
 module _ (old r r2 : RegionView) (start next : Option Position) (taken : ℕ) (w : IsRunning old r start next taken) (i : FrameItem) (g : GoalPlace) (after : AfterGoal) (f : TakesFirst r r2 next i g after) where
@@ -221,6 +225,7 @@ module _ (old r r2 : RegionView) (start next : Option Position) (taken : ℕ) (w
         ∙ ap (λ z. with_free_steps (record st { entries = after_entries named r2 z; inferences = st.inferences + (taken + 1) })) e;
     there = item_there f.between r2 i g p f.ahead.there.goal (subst (InfersItem f.between r2 i g) e f.infers);
     text = f.text ∙ (f.kept ∙ w.text);
+    floor = f.floor ∙ (f.stayed ∙ w.floor);
   }
 
   pub fails_on : after ≡ Failed → IsRunning old r2 start None (taken + 1)
@@ -230,6 +235,7 @@ module _ (old r r2 : RegionView) (start next : Option Position) (taken : ℕ) (w
         ∙ ap (λ z. with_free_steps (record st { entries = after_entries named r2 z; inferences = st.inferences + (taken + 1) })) e;
     there = tt;
     text = f.text ∙ (f.kept ∙ w.text);
+    floor = f.floor ∙ (f.stayed ∙ w.floor);
   }
 
   pub ends_uncaught : (limit : ℕ) (ball : Box FlatTerm Global) → taken < limit → after ≡ Uncaught ball → Runs old r2 start limit (record { taken = taken + 1; stop = stop.QueryDone (Some ball.value) })
@@ -253,14 +259,16 @@ module _ (old r r2 : RegionView) (start next : Option Position) (taken : ℕ) (w
       }
 
 -- a compound that stood first was taken
-pub takes_compound : (r r2 : RegionView) (next : Option Position) (g : CompoundAhead) (after : AfterGoal) → LiesAhead r r next (compound_goal g) → Infers r r2 (meaning r.store (Compound g.at g.base)) g.place after → r2.text ≡ r.text
+pub takes_compound : (r r2 : RegionView) (next : Option Position) (g : CompoundAhead) (after : AfterGoal) → LiesAhead r r next (compound_goal g) → Infers r r2 (meaning r.store (Compound g.at g.base)) g.place after → r2.text ≡ r.text → r2.store.floor ≡ r.store.floor
     → TakesFirst r r2 next (item.Goal (Compound g.at g.base)) g.place after
-takes_compound r r2 next g after l x text = record {
+takes_compound r r2 next g after l x text floor = record {
   between = r;
   ahead = l;
   kept = refl;
+  stayed = refl;
   infers = item_infers r r2 (item.Goal (Compound g.at g.base)) g.place after (meaning r.store (Compound g.at g.base)) refl x;
   text = text;
+  floor = floor;
 }
 
 -- a call is one more
@@ -270,8 +278,8 @@ module _ (old r : RegionView) (start next : Option Position) (taken : ℕ) (w : 
   calls_on k known calls r2 (Some p) c =
       let goal = Compound g.at g.base in
       let d = calls_defined r goal form is k known calls in
-      goes_on_at old r r2 start next taken w (item.Goal goal) g.place (At p) (takes_compound r r2 next g (At p) l (called_at r (meaning r.store goal) g.place is.callable d.0 d.1 r2 goal refl p c) c.text) p refl
+      goes_on_at old r r2 start next taken w (item.Goal goal) g.place (At p) (takes_compound r r2 next g (At p) l (called_at r (meaning r.store goal) g.place is.callable d.0 d.1 r2 goal refl p c) c.text c.floor) p refl
   calls_on k known calls r2 None c =
       let goal = Compound g.at g.base in
       let d = calls_defined r goal form is k known calls in
-      fails_on old r r2 start next taken w (item.Goal goal) g.place Failed (takes_compound r r2 next g Failed l (called_none r (meaning r.store goal) g.place is.callable d.0 d.1 r2 goal refl c) c.text) refl
+      fails_on old r r2 start next taken w (item.Goal goal) g.place Failed (takes_compound r r2 next g Failed l (called_none r (meaning r.store goal) g.place is.callable d.0 d.1 r2 goal refl c) c.text c.floor) refl

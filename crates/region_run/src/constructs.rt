@@ -36,6 +36,7 @@ pub(crate) fn construct_taken(
     requires place { IsGoalPlace region.old place }
     ensures infers { IfOk result (Infers region.old region.new (meaning region.old.store goal) place) }
     ensures text { OnOk result (region.new.text ≡ region.old.text) }
+    ensures floor { OnOk result (region.new.store.floor ≡ region.old.store.floor) }
 {
     match control {
         Control::Succeed => Ok(AfterGoal::At(place.after)),

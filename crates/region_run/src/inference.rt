@@ -38,6 +38,7 @@ pub fn infer(
     requires kinds { kinds.now ≡ region.old.text.code.names }
     ensures infers { IfOk result (InfersItem region.old region.new item place) }
     ensures text { OnOk result (region.new.text ≡ region.old.text) }
+    ensures floor { OnOk result (region.new.store.floor ≡ region.old.store.floor) }
 {
     match item {
         FrameItem::Goal(goal) => goal_taken(region, alloc, kinds, goal, place),
@@ -65,6 +66,7 @@ fn goal_taken(
     requires kinds { kinds.now ≡ region.old.text.code.names }
     ensures infers { IfOk result (Infers region.old region.new (meaning region.old.store goal) place) }
     ensures text { OnOk result (region.new.text ≡ region.old.text) }
+    ensures floor { OnOk result (region.new.store.floor ≡ region.old.store.floor) }
 {
     let Some(form) = form_of(region.store(), goal) else {
         return called(region, alloc, goal, place);
@@ -105,6 +107,7 @@ pub(crate) fn taken_by_kind(
     requires place { IsGoalPlace region.old place }
     ensures infers { IfOk result (Infers region.old region.new (meaning region.old.store goal) place) }
     ensures text { OnOk result (region.new.text ≡ region.old.text) }
+    ensures floor { OnOk result (region.new.store.floor ≡ region.old.store.floor) }
 {
     match kind {
         GoalKind::Control(control) => construct_taken(region, alloc, control, goal, form, place),
@@ -126,6 +129,7 @@ fn called(
     requires place { IsGoalPlace region.old place }
     ensures comes { IfOk result (LeavesOutcome region.old region.new (call_outcome 1 (meaning region.old.store goal) end) place) }
     ensures text { OnOk result (region.new.text ≡ region.old.text) }
+    ensures floor { OnOk result (region.new.store.floor ≡ region.old.store.floor) }
 {
     let none = Arguments {
         at: 0,
@@ -148,6 +152,7 @@ fn procedure_called(
     requires place { IsGoalPlace region.old place }
     ensures infers { IfOk result (Infers region.old region.new (meaning region.old.store goal) place) }
     ensures text { OnOk result (region.new.text ≡ region.old.text) }
+    ensures floor { OnOk result (region.new.store.floor ≡ region.old.store.floor) }
 {
     match region.call(goal, place.after)? {
         Some(position) => Ok(AfterGoal::At(position)),

@@ -29,6 +29,7 @@ pub(crate) fn either_taken(
     ensures comes { IfOk result (LeavesOutcome region.old region.new
         (Controls (either_form (term_at 0 (argument_terms region.old.store arguments)) (term_at 1 (argument_terms region.old.store arguments)))) place) }
     ensures text { OnOk result (region.new.text ≡ region.old.text) }
+    ensures floor { OnOk result (region.new.store.floor ≡ region.old.store.floor) }
 {
     let left = argument(region.store(), arguments, 0);
     let right = argument(region.store(), arguments, 1);
@@ -49,6 +50,7 @@ pub(crate) fn then_taken(
     ensures comes { IfOk result (LeavesOutcome region.old region.new
         (Controls (TestOf (goals_of (term_at 0 (argument_terms region.old.store arguments))) (goals_of (term_at 1 (argument_terms region.old.store arguments))) fail_goals)) place) }
     ensures text { OnOk result (region.new.text ≡ region.old.text) }
+    ensures floor { OnOk result (region.new.store.floor ≡ region.old.store.floor) }
 {
     let condition = argument(region.store(), arguments, 0);
     let then = argument(region.store(), arguments, 1);
@@ -69,6 +71,7 @@ pub(crate) fn not_taken(
     ensures comes { IfOk result (LeavesOutcome region.old region.new
         (Controls (TestOf (call_of (term_at 0 (argument_terms region.old.store arguments)) ∷ []) fail_goals true_goals)) place) }
     ensures text { OnOk result (region.new.text ≡ region.old.text) }
+    ensures floor { OnOk result (region.new.store.floor ≡ region.old.store.floor) }
 {
     let goal = argument(region.store(), arguments, 0);
     let position = not(region, alloc, goal, place)?;
@@ -88,6 +91,7 @@ pub(crate) fn once_taken(
     ensures comes { IfOk result (LeavesOutcome region.old region.new
         (Controls (TestOf (call_of (term_at 0 (argument_terms region.old.store arguments)) ∷ []) true_goals fail_goals)) place) }
     ensures text { OnOk result (region.new.text ≡ region.old.text) }
+    ensures floor { OnOk result (region.new.store.floor ≡ region.old.store.floor) }
 {
     let goal = argument(region.store(), arguments, 0);
     let position = once(region, alloc, goal, place)?;
@@ -106,6 +110,7 @@ pub(crate) fn catch_taken(
     ensures comes { IfOk result (LeavesOutcome region.old region.new
         (Controls (CatchOf (term_at 0 (argument_terms region.old.store arguments)) (term_at 1 (argument_terms region.old.store arguments)) (term_at 2 (argument_terms region.old.store arguments)))) place) }
     ensures text { OnOk result (region.new.text ≡ region.old.text) }
+    ensures floor { OnOk result (region.new.store.floor ≡ region.old.store.floor) }
 {
     let goal = argument(region.store(), arguments, 0);
     let catcher = argument(region.store(), arguments, 1);
@@ -127,6 +132,7 @@ pub(crate) fn findall_taken(
     ensures comes { IfOk result (LeavesOutcome region.old region.new
         (Controls (FindallOf (term_at 0 (argument_terms region.old.store arguments)) (term_at 1 (argument_terms region.old.store arguments)) (term_at 2 (argument_terms region.old.store arguments)))) place) }
     ensures text { OnOk result (region.new.text ≡ region.old.text) }
+    ensures floor { OnOk result (region.new.store.floor ≡ region.old.store.floor) }
 {
     let template = argument(region.store(), arguments, 0);
     let goal = argument(region.store(), arguments, 1);

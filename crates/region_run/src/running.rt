@@ -53,6 +53,7 @@ pub fn run(
     requires kinds { kinds.now ≡ region.old.text.code.names }
     ensures runs { IfOk result (Runs region.old region.new start limit) }
     ensures text { OnOk result (region.new.text ≡ region.old.text) }
+    ensures floor { OnOk result (region.new.store.floor ≡ region.old.store.floor) }
 {
     let mut next = start;
     let mut taken = 0;

@@ -24,6 +24,7 @@ pub(crate) fn throw_value(
     requires place { IsGoalPlace region.old place }
     ensures comes { IfOk result (LeavesOutcome region.old region.new (throw_outcome (meaning region.old.store ball)) place) }
     ensures text { OnOk result (region.new.text ≡ region.old.text) }
+    ensures floor { OnOk result (region.new.store.floor ≡ region.old.store.floor) }
 {
     if is_variable(region.store(), ball) {
         let name = Atom::ascii(alloc, "throw")?;

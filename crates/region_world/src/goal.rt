@@ -56,6 +56,7 @@ pub fn world_goal(
     ensures takes { IfOk result (TakesWorldGoal region.old region.new (meaning region.old.store goal) place (world_meant world.old) (world_meant world.new)) }
     ensures statics { world.new.database.statics ≡ world.old.database.statics }
     ensures text { OnOk result (region.new.text ≡ region.old.text) }
+    ensures floor { OnOk result (region.new.store.floor ≡ region.old.store.floor) }
 {
     let Some(form) = form_of(region.store(), goal) else {
         unreachable!();
@@ -82,6 +83,7 @@ fn applied_taken(
     requires place { IsGoalPlace region.old place }
     ensures leaves { IfOk result (λ left. (reply : Reply) → IsReplied effect.now region.old.store.now.next reply applied → LeavesReply region.old region.new reply place left) }
     ensures text { OnOk result (region.new.text ≡ region.old.text) }
+    ensures floor { OnOk result (region.new.store.floor ≡ region.old.store.floor) }
 {
     match applied {
         Applied::Went => Ok(WorldReply::Goes(AfterGoal::At(place.after))),
@@ -115,6 +117,7 @@ fn error_raised(
     requires { IsGoalPlace region.old place }
     ensures comes { IfOk result (LeavesOutcome region.old region.new (Replies (Ball (error_term (error_term_of fault.now) (effect_name effect.now) (effect_arity effect.now)))) place) }
     ensures text { OnOk result (region.new.text ≡ region.old.text) }
+    ensures floor { OnOk result (region.new.store.floor ≡ region.old.store.floor) }
 {
     let raised = ball(alloc, effect, fault)?;
     raise(region, alloc, &raised, place)
@@ -132,6 +135,7 @@ fn clauses_tried(
     requires place { IsGoalPlace region.old place }
     ensures comes { IfOk result (LeavesFound region.old region.new (clause_unified region.old.store matching.now) (map shown found.now) place) }
     ensures text { OnOk result (region.new.text ≡ region.old.text) }
+    ensures floor { OnOk result (region.new.store.floor ≡ region.old.store.floor) }
 {
     let base = region.store().next();
     let solutions = found_solutions(alloc, found, matching, base)?;
@@ -150,6 +154,7 @@ fn rows_tried(
     requires place { IsGoalPlace region.old place }
     ensures comes { IfOk result (LeavesSolutions region.old region.new (map (operator_unified region.old.store asked) (map row_meant rows.now)) place) }
     ensures text { OnOk result (region.new.text ≡ region.old.text) }
+    ensures floor { OnOk result (region.new.store.floor ≡ region.old.store.floor) }
 {
     let solutions = row_solutions(alloc, asked, rows)?;
     solutions_tried(region, solutions, place)
@@ -165,6 +170,7 @@ fn solutions_tried(
     requires place { IsGoalPlace region.old place }
     ensures comes { IfOk result (LeavesSolutions region.old region.new (map (solution_here region.old) solutions) place) }
     ensures text { OnOk result (region.new.text ≡ region.old.text) }
+    ensures floor { OnOk result (region.new.store.floor ≡ region.old.store.floor) }
 {
     match region.solve(solutions, place.after)? {
         Some(position) => Ok(AfterGoal::At(position)),

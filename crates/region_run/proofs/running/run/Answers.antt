@@ -39,6 +39,7 @@ returns-in_default c =
     record {
       runs = stops_at c.args.region.now c.loop-taken.region c.look_ahead.new.region c.args.start c.loop-taken.next c.loop-taken.taken w _ c.in_ok-ahead-in-None.ensures.ahead c.args.limit _ c.stopped.ensures.taken c.stopped.ensures.stop c.loop-taken.invariant.1 (λ i g e. absurd (c.in_default.not-Goal i g e));
       text = c.in_ok-ahead-in-None.ensures.text ∙ w.text;
+      floor = c.in_ok-ahead-in-None.ensures.floor ∙ w.floor;
     }
 
 pub returns : goal.returns
@@ -49,6 +50,7 @@ returns c =
     record {
       runs = stops_at c.args.region.now c.loop-taken.region c.look_ahead-2.new.region c.args.start c.loop-taken.next c.loop-taken.taken w _ c.in_ok-ahead.ensures.ahead c.args.limit _ c.stopped-2.ensures.taken c.stopped-2.ensures.stop le (λ i g e. omega (arith, le, out));
       text = c.in_ok-ahead.ensures.text ∙ w.text;
+      floor = c.in_ok-ahead.ensures.floor ∙ w.floor;
     }
 
 pub returns-in-Uncaught : goal.returns-in-Uncaught
@@ -61,19 +63,22 @@ returns-in-Uncaught c =
       | in-Some+else-calls_procedure+in_ok-after-in-Some w1 ↦ rw w1.region-is (rw w1.item-is
           (takes_compound r w1.taken_by_kind.new.region c.loop-taken.next w1.in-Some.compound w1.in_ok-after-in-Some.after
           (subst (λ o. IfSome o (λ g. LiesAhead r r c.loop-taken.next (compound_goal g))) w1.in-Some.is c.in_ok-compound.ensures)
-          w1.in_ok-after-in-Some.ensures.infers w1.in_ok-after-in-Some.ensures.text))
+          w1.in_ok-after-in-Some.ensures.infers w1.in_ok-after-in-Some.ensures.text w1.in_ok-after-in-Some.ensures.floor))
       | in-None+in_ok-ahead-in-None+in-Goal+in_ok-infer-in-Goal w1 ↦ rw w1.region-is (rw w1.item-is (record {
         between = w1.look_ahead.new.region;
         ahead = subst (LiesAhead r w1.look_ahead.new.region c.loop-taken.next) w1.in-Goal.is w1.in_ok-ahead-in-None.ensures.ahead;
         kept = w1.in_ok-ahead-in-None.ensures.text;
+        stayed = w1.in_ok-ahead-in-None.ensures.floor;
         infers = w1.in_ok-infer-in-Goal.ensures.infers;
         text = w1.in_ok-infer-in-Goal.ensures.text;
+        floor = w1.in_ok-infer-in-Goal.ensures.floor;
       }))
     ] in
     record {
       runs = subst (λ ball. Runs c.args.region.now m.region c.args.start c.args.limit (record { taken = c.loop-taken.taken + 1; stop = stop.QueryDone (Some ball) })) (sym c.into_inner.ensures)
           (ends_uncaught c.args.region.now r m.region c.args.start c.loop-taken.next c.loop-taken.taken w m.item.0 m.item.1 m.item.2 f c.args.limit c.in-Uncaught.ball few c.in-Uncaught.is);
       text = f.text ∙ (f.kept ∙ w.text);
+      floor = f.floor ∙ (f.stayed ∙ w.floor);
     }
 
 pub returns-in-AsksWorld : goal.returns-in-AsksWorld
@@ -86,18 +91,21 @@ returns-in-AsksWorld c =
       | in-Some+else-calls_procedure+in_ok-after-in-Some w1 ↦ rw w1.region-is (rw w1.item-is
           (takes_compound r w1.taken_by_kind.new.region c.loop-taken.next w1.in-Some.compound w1.in_ok-after-in-Some.after
           (subst (λ o. IfSome o (λ g. LiesAhead r r c.loop-taken.next (compound_goal g))) w1.in-Some.is c.in_ok-compound.ensures)
-          w1.in_ok-after-in-Some.ensures.infers w1.in_ok-after-in-Some.ensures.text))
+          w1.in_ok-after-in-Some.ensures.infers w1.in_ok-after-in-Some.ensures.text w1.in_ok-after-in-Some.ensures.floor))
       | in-None+in_ok-ahead-in-None+in-Goal+in_ok-infer-in-Goal w1 ↦ rw w1.region-is (rw w1.item-is (record {
         between = w1.look_ahead.new.region;
         ahead = subst (LiesAhead r w1.look_ahead.new.region c.loop-taken.next) w1.in-Goal.is w1.in_ok-ahead-in-None.ensures.ahead;
         kept = w1.in_ok-ahead-in-None.ensures.text;
+        stayed = w1.in_ok-ahead-in-None.ensures.floor;
         infers = w1.in_ok-infer-in-Goal.ensures.infers;
         text = w1.in_ok-infer-in-Goal.ensures.text;
+        floor = w1.in_ok-infer-in-Goal.ensures.floor;
       }))
     ] in
     record {
       runs = world_next c.args.region.now r m.region c.args.start c.loop-taken.next c.loop-taken.taken w m.item.0 m.item.1 m.item.2 f c.args.limit few c.in-AsksWorld.is;
       text = f.text ∙ (f.kept ∙ w.text);
+      floor = f.floor ∙ (f.stayed ∙ w.floor);
     }
 
 pub loop-taken-preserved : goal.loop-taken-preserved
@@ -111,13 +119,15 @@ loop-taken-preserved c =
       | in-Some+else-calls_procedure+in_ok-after-in-Some w1 ↦ rw w1.region-is (rw w1.item-is
           (takes_compound r w1.taken_by_kind.new.region c.loop-taken.next w1.in-Some.compound w1.in_ok-after-in-Some.after
           (subst (λ o. IfSome o (λ g. LiesAhead r r c.loop-taken.next (compound_goal g))) w1.in-Some.is c.in_ok-compound.ensures)
-          w1.in_ok-after-in-Some.ensures.infers w1.in_ok-after-in-Some.ensures.text))
+          w1.in_ok-after-in-Some.ensures.infers w1.in_ok-after-in-Some.ensures.text w1.in_ok-after-in-Some.ensures.floor))
       | in-None+in_ok-ahead-in-None+in-Goal+in_ok-infer-in-Goal w1 ↦ rw w1.region-is (rw w1.item-is (record {
         between = w1.look_ahead.new.region;
         ahead = subst (LiesAhead r w1.look_ahead.new.region c.loop-taken.next) w1.in-Goal.is w1.in_ok-ahead-in-None.ensures.ahead;
         kept = w1.in_ok-ahead-in-None.ensures.text;
+        stayed = w1.in_ok-ahead-in-None.ensures.floor;
         infers = w1.in_ok-infer-in-Goal.ensures.infers;
         text = w1.in_ok-infer-in-Goal.ensures.text;
+        floor = w1.in_ok-infer-in-Goal.ensures.floor;
       }))
     ] in
     elim c.match-after.branch [
