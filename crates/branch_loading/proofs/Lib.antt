@@ -2,5 +2,5 @@ mod MadeLemmas
 mod PlaceUpLemmas
 mod HeightLemmas
 mod BindingLemmas
-mod LoadLemmas
+pub mod LoadLemmas
 mod LoadableLemmas

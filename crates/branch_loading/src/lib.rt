@@ -13,3 +13,4 @@ mod load;
 mod places;
 
 pub use load::load_task;
+pub use places::places_up;

@@ -11,7 +11,7 @@ use tree_model::AltRef;
 use tree_nodes::{NodeKind, Nodes};
 
 /// The places on the way up from an alternative, the innermost first.
-pub(crate) fn places_up(nodes: &Nodes, at: AltRef, alloc: Global) -> Result<Vec<AltRef>, NoMemory>
+pub fn places_up(nodes: &Nodes, at: AltRef, alloc: Global) -> Result<Vec<AltRef>, NoMemory>
     requires { IsSome (row_of_node nodes.now.rows at.node) }
     ensures { IfOk result (λ places. AreAllUp nodes.now.rows (place_view at) (map place_view places.items)) }
 {

@@ -34,7 +34,7 @@ use Rattle.branch_publishing.proofs.ChainLemmas.{CanBeBody}
 use Rattle.branch_publishing.proofs.WholeLemmas.{reverse-cons, oldest_first, groups_are, live_groups}
 use Rattle.branch_publishing.proofs.AllLemmas.{all_show}
 
-each_turned : {X : Type 0} (P : X → Type 0) (xs : List X) → Each P xs → Each P (reverse xs)
+pub each_turned : {X : Type 0} (P : X → Type 0) (xs : List X) → Each P xs → Each P (reverse xs)
 each_turned P [] e = tt
 each_turned P (x ∷ xs) e = subst (λ ys. Each P ys) (sym (reverse-cons x xs)) (each-append P (reverse xs) (x ∷ []) (each_turned P xs e.1) (e.0, tt))
 

@@ -34,7 +34,7 @@ newer_means lists under mid cut (d ∷ cs) (n ∷ ms) c m k h =
 pub reverse-cons : {A : Type 0} (x : A) (xs : List A) → reverse (x ∷ xs) ≡ reverse xs ++ x ∷ []
 reverse-cons x xs = reverse-append (x ∷ []) xs
 
-turned : {A : Type 0} (xs : List A) → length (reverse xs) ≡ length xs
+pub turned : {A : Type 0} (xs : List A) → length (reverse xs) ≡ length xs
 turned [] = refl
 turned {A} (x ∷ xs) = ap (λ (ys : List A). length ys) (reverse-cons x xs) ∙ (length-append (reverse xs) (x ∷ [])
     ∙ (let e = turned xs in omega (arith, e)))

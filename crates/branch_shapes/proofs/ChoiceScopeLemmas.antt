@@ -21,7 +21,7 @@ module _ (floor : ℕ) (gs : Groups) (n : ℕ) where
       by_test true q = refl
       by_test false q = let lt : floor < n = grind (arith, nat_tests) in absurd (omega arith)
 
-  high_height : floor ≤ n → choice_height floor gs n ≡ height_kept floor gs (n - floor)
+  pub high_height : floor ≤ n → choice_height floor gs n ≡ height_kept floor gs (n - floor)
   high_height le = by_test (nat_le n floor) refl
     where
       by_test : (t : Bool) → nat_le n floor ≡ t → cond t n (height_kept floor gs (n - floor)) ≡ height_kept floor gs (n - floor)

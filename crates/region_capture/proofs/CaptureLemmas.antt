@@ -48,6 +48,7 @@ pub record CapturesDownTo (old r : RegionView) (floor : ℕ) (lists : ItemLists)
   pub guards : (over : ℕ) → length r.choices ≤ over → IsGuardAt old.choices over → IsGuardOver (length r.choices) choices over
   pub marks : Each (λ m. Each (HasMarksAt old.choices) m.alternatives) choices
   pub many : length r.store.marks ≡ length r.choices
+  pub counted : length old.choices ≡ length r.choices + length choices
   pub high : floor ≤ length r.choices
   pub text : r.text ≡ old.text
 
@@ -80,6 +81,7 @@ captures_start r floor lists many high = record {
   guards = λ over le g. absurd (past_end r.choices over le g);
   marks = tt;
   many = many;
+  counted = omega arith;
   high = high;
   text = refl;
 }
@@ -168,6 +170,7 @@ module _ (old r new : RegionView) (floor : ℕ) (some : 1 ≤ floor) (lists more
     guards = now_guards;
     marks = each-append (λ m. Each (HasMarksAt old.choices) m.alternatives) ms (n.meant ∷ []) k.marks (own_marks, tt);
     many = now_many;
+    counted = let l = k.counted in let e = one_less in let m = length-append ms (n.meant ∷ []) in omega (arith, l, e, m);
     high = let e = one_less in omega (arith, over, e);
     text = n.text ∙ k.text;
   }
@@ -240,6 +243,7 @@ module _ (old new : RegionView) (floor : ℕ) (p : Position) (none first : ItemL
     marked = got;
     current = left_at old p;
     choices = k.choices;
+    many = let l = k.counted in let s = same in omega (arith, l, s);
     goes_on = means;
     now = refl;
     entry = λ named. refl;

@@ -1,5 +1,5 @@
 -- What is taken off a region above some of its choice points.
-use Rattle.std.specs.Prelude.{◌≡◌, ℕ, ◌-◌, ◌≤◌, List, ◌++◌, length, drop, take, slice_get, Some}
+use Rattle.std.specs.Prelude.{◌≡◌, ℕ, ◌+◌, ◌-◌, ◌≤◌, List, ◌++◌, length, drop, take, slice_get, Some}
 use Rattle.au_model.specs.Terms.Each.{Each}
 use Rattle.au_model.specs.Terms.Named.{NamedTerm}
 use Rattle.run_model.specs.Machine.Entries.{PlainEntry}
@@ -29,6 +29,7 @@ pub record CapturesRegion (old new : RegionView) (floor : ℕ) (p : Position) (c
   pub marked : slice_get old.store.marks (floor - 1) ≡ Some start
   pub current : MeantAlternative
   pub choices : List MeantChoice
+  pub many : length old.choices ≡ floor + length choices
   pub goes_on : let under = bound_under (bound_at start) choices in MeansAlternative c.items under.bound under.next (length old.choices) c.current current
   pub now : current.bound ≡ old.store.now.bound
   pub entry : (named : List NamedTerm) → position_entry named old p ≡ PlainEntry (meant_continuation (heights_of named old) named current)

@@ -39,14 +39,14 @@ unfolding ends
 ends-bare zero = refl
 ends-bare (suc n) = ap suc (ends-bare n)
 
-own_no_ends : (n : ℕ) (es : List Entry) → AreOwn n es → Each IsNoEndEntry es
+pub own_no_ends : (n : ℕ) (es : List Entry) → AreOwn n es → Each IsNoEndEntry es
 own_no_ends n [] h = tt
 own_no_ends n (PlainEntry f ∷ es) h = (tt, own_no_ends n es h.1)
 own_no_ends n (CatchEntry c r f ∷ es) h = (tt, own_no_ends n es h.1)
 own_no_ends n (FindallEntry results l f ∷ es) h = (tt, own_no_ends n es h.1)
 own_no_ends n (EndEntry b ∷ es) h = absurd h.0
 
-same_floor : (n m : ℕ) (xs ys : List Entry) → Each IsNoEndEntry xs → Each IsNoEndEntry ys → xs ++ bare_floor n ≡ ys ++ bare_floor m → n ≡ m
+pub same_floor : (n m : ℕ) (xs ys : List Entry) → Each IsNoEndEntry xs → Each IsNoEndEntry ys → xs ++ bare_floor n ≡ ys ++ bare_floor m → n ≡ m
 same_floor n m xs ys h k e =
     sym (ends-bare n) ∙ (sym (ends-over xs (bare_floor n) h) ∙ (ap ends e ∙ (ends-over ys (bare_floor m) k ∙ ends-bare m)))
 
@@ -61,7 +61,7 @@ record StandsOver (st : Standing) (many : ℕ) : Type 0 where
   above : (cut : ℕ) → floor ≤ cut → cut ≤ many → floor ≤ height_of_cut st.heights cut
 
 module _ (s : RegionSetting) where
-  no_ends_over : (below : Standing) (cs : List ChoicePoint) (ms : List Moment) → Each StandsForNoEnd cs
+  pub no_ends_over : (below : Standing) (cs : List ChoicePoint) (ms : List Moment) → Each StandsForNoEnd cs
       → (own : List Entry) × ((standing_over s below cs ms).entries ≡ own ++ below.entries) × Each IsNoEndEntry own
   no_ends_over below [] ms h = ([], refl, tt)
   no_ends_over below (c ∷ cs) [] h = ([], refl, tt)

@@ -3,9 +3,9 @@ mod LoadLemmas
 mod StartLemmas
 mod FoundLemmas
 mod DeferredLemmas
-mod ChoiceEntryLemmas
+pub mod ChoiceEntryLemmas
 mod EngineLemmas
-mod EndLemmas
+pub mod EndLemmas
 mod CutGoalLemmas
 mod StandingRunLemmas
 mod AheadLemmas

@@ -1,0 +1,9 @@
+mod HeightLemmas
+mod JoinedLemmas
+mod FloorEndLemmas
+mod TakenLemmas
+mod NodesDownLemmas
+mod BodyLemmas
+mod StoppedLemmas
+mod SpotLemmas
+mod RunLemmas

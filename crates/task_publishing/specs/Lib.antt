@@ -1,0 +1,3 @@
+pub mod OwnEntries
+pub mod OwnBodies
+pub mod TaskRuns
