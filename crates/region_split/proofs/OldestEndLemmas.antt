@@ -1,8 +1,10 @@
 -- The ends of queries stay the oldest choice points.
-use Rattle.std.proofs.Common.{◌≡◌, ◌⊎◌, inl, inr, ℕ, zero, suc, List, [], ◌∷◌, ◌++◌, length, take, arith}
+use Rattle.std.proofs.Common.{◌≡◌, ◌⊎◌, inl, inr, ℕ, zero, suc, ◌+◌, List, [], ◌∷◌, ◌++◌, length, take, sym, ◌∙◌, arith}
 use Rattle.au_model.specs.Terms.Each.{Each}
 use Rattle.au_model.proofs.EachLemmas.{each-append}
-use Rattle.region_split.specs.QueryEnds.{IsEnd, StandsForNoEnd, AreEndsOldest, MayComeOver}
+use Rattle.region_split.specs.ChoicePoints.{RegionSetting, AreAlternativesAt, AreChoicesOver}
+use Rattle.region_split.specs.QueryEnds.{IsEnd, StandsForNoEnd, AreEndsAtFloor, AreEndsOldest, MayComeOver}
+use Rattle.cell_store.specs.StoreView.{Moment}
 use Rattle.region_split.specs.declared.choice.Alternatives.{Alternatives}
 use Rattle.region_split.specs.declared.choice.Alternatives.TheVariants.{Clauses, Solutions, Elsewhere, Catch, Findall, QueryEnd}
 use Rattle.region_split.specs.declared.choice.ChoicePoint.{ChoicePoint}
@@ -68,3 +70,18 @@ oldest_changed (x ∷ xs) ys c a k (inr h) = inr (none_changed (x ∷ xs) ys c a
 pub none_yet : (cs : List ChoicePoint) → length cs ≡ 0 → Each (λ c. IsEnd c.alternatives) cs
 none_yet [] e = tt
 none_yet (c ∷ cs) e = absurd (omega (arith, e))
+
+-- an end came at the floor
+end_there : (s : RegionSetting) (m : Moment) (a : Alternatives) → AreAlternativesAt s m a → IsEnd a → m ≡ s.floor
+end_there s m (Clauses goal clause left) v e = absurd e
+end_there s m (Solutions left) v e = absurd e
+end_there s m Elsewhere v e = absurd e
+end_there s m (Catch catcher recovery) v e = absurd e
+end_there s m (Findall list results) v e = absurd e
+end_there s m QueryEnd v e = v
+
+pub ends_at_floor : (s : RegionSetting) (cut frames : ℕ) (cs : List ChoicePoint) (ms : List Moment) → AreChoicesOver s cut frames cs ms → AreEndsAtFloor s.floor cs ms
+ends_at_floor s cut frames [] ms k n m e got = absurd e
+ends_at_floor s cut frames (c ∷ cs) [] k n m e got = absurd k
+ends_at_floor s cut frames (c ∷ cs) (x ∷ ms) k zero m e got = let same : x ≡ m = cc in sym same ∙ end_there s x c.alternatives k.0.values e
+ends_at_floor s cut frames (c ∷ cs) (x ∷ ms) k (suc n) m e got = ends_at_floor s (cut + 1) c.frames cs ms k.1 n m e got

@@ -37,8 +37,8 @@ pub stays_same : (r : RegionView) → StaysStanding r r
 stays_same r = record { stands = λ named. refl; position = λ cut p i. i; marks = refl; floor = refl; others = refl }
 
 -- the state of the store becomes its floor
-pub floored_region : (r : RegionView) → IsConsistentRegion r → IsConsistentRegion (record r { store = over_floor r.store })
-floored_region r k = record { program = k.program; choices = k.choices; frames = k.frames; older = k.older; marked = k.marked; ends = k.ends }
+pub floored_region : (r : RegionView) → r.choices ≡ [] → r.store.marks ≡ [] → IsConsistentRegion r → IsConsistentRegion (record r { store = over_floor r.store })
+floored_region r none unmarked k = record { program = k.program; choices = rw none (rw unmarked tt); frames = k.frames; older = k.older; marked = k.marked; ends = k.ends }
 
 pub none_of_them : (ms : List Moment) → length ms ≡ 0 → ms ≡ []
 none_of_them [] e = refl
@@ -71,7 +71,7 @@ module _ (program : CodeView) (names : List (List ℕ)) (s : RegionSetting) wher
   kept_values m Elsewhere k v = tt
   kept_values m (Catch catcher recovery) k v = ((value_kept (code_at s m) (code_at now m) m.next catcher k v.0).0, (value_kept (code_at s m) (code_at now m) m.next recovery k v.1).0)
   kept_values m (Findall list results) k v = ((value_kept (code_at s m) (code_at now m) m.next list k v.0).0, v.1)
-  kept_values m QueryEnd k v = tt
+  kept_values m QueryEnd k v = v
 
   kept_alternatives : (m : Moment) (h : ℕ) (f : Continuation ℕ) (a : Alternatives) → IsKept m → AreAlternativesAt s m a → alternative_entries now m h f a ≡ alternative_entries s m h f a
   kept_alternatives m h f (Clauses goal clause left) k v = ap (λ t. entries_of_clauses s.text (resolve m.bound t) m.next h f (clause ∷ numbers_left s.text.heads left)) (value_kept (code_at s m) (code_at now m) m.next goal k v.0).1
@@ -111,10 +111,14 @@ module _ (r : RegionView) (k : IsConsistentRegion r) (new : StoreView) (adds : A
   kept_marks : Each (IsKept new.program new.names (region_setting [] r)) r.store.marks
   kept_marks = adds.at_marks
 
+  abbrev at_floor : List NamedTerm → Moment → RegionSetting
+  at_floor named f = record (region_setting named added) { floor = f }
+
   pub added_region : IsConsistentRegion added
   added_region = record {
     program = adds.program ∙ k.program;
-    choices = subst (AreChoicesOver (region_setting [] added) 0 0 r.choices) (sym adds.marks) (kept_choices new.program new.names (region_setting [] r) 0 0 r.choices r.store.marks kept_marks k.choices);
+    choices = subst (λ f. AreChoicesOver (at_floor [] f) 0 0 r.choices new.marks) (sym adds.floor)
+        (subst (AreChoicesOver (at_floor [] r.store.floor) 0 0 r.choices) (sym adds.marks) (kept_choices new.program new.names (region_setting [] r) 0 0 r.choices r.store.marks kept_marks k.choices));
     frames = k.frames;
     older = k.older;
     marked = k.marked;
@@ -123,7 +127,8 @@ module _ (r : RegionView) (k : IsConsistentRegion r) (new : StoreView) (adds : A
 
   stands : (named : List NamedTerm) → standing named added ≡ standing named r
   stands named =
-      ap (λ ms. standing_over (region_setting named added) nothing_standing r.choices ms) adds.marks
+      ap (λ f. standing_over (at_floor named f) nothing_standing r.choices new.marks) adds.floor
+      ∙ ap (λ ms. standing_over (at_floor named r.store.floor) nothing_standing r.choices ms) adds.marks
       ∙ kept_standing new.program new.names (region_setting named r) 0 0 nothing_standing r.choices r.store.marks kept_marks (choices_named (region_setting [] r) named 0 0 r.choices r.store.marks k.choices)
 
   position : (cut : ℕ) (p : Position) → IsPositionOver r cut p → IsPositionOver added cut p

@@ -27,12 +27,13 @@ use Rattle.region_split.specs.declared.frame.FrameItem.TheVariants.{Goal, Call, 
 use Rattle.region_split.specs.declared.text.BodyItem.{BodyItem}
 use Rattle.region_split.specs.declared.frame.Position.{Position}
 
--- what does not change while choice points come and go: the text, the store's own text and further names, the frames, and
--- what the query's named variables stand for before anything is bound
+-- what does not change while choice points come and go: the text, the store's own text and further names, the state at its floor, the
+-- frames, and what the query's named variables stand for before anything is bound
 pub record RegionSetting : Type 0 where
   pub text : TextView
   pub program : CodeView
   pub names : List (List ℕ)
+  pub floor : Moment
   pub frames : List Frame
   pub named : List NamedTerm
 
@@ -188,14 +189,14 @@ with_found t QueryEnd = QueryEnd
 abbrev pub nothing_standing : Standing
 nothing_standing = record { entries = []; heights = 0 ∷ [] }
 
--- values that were there at a moment, and clauses of the text
+-- values that were there at a moment, and clauses of the text; the end of a query comes at the floor
 abbrev pub AreAlternativesAt : RegionSetting → Moment → Alternatives → Type 0
 AreAlternativesAt s m (Clauses goal clause left) = IsValue (code_at s m) m.next goal × (clause < length s.text.clauses) × IsCursorOf s.text.heads left
 AreAlternativesAt s m (Solutions left) = Each (IsSolutionAt (code_at s m) m.next) left
 AreAlternativesAt s m Elsewhere = Unit {0}
 AreAlternativesAt s m (Catch catcher recovery) = IsValue (code_at s m) m.next catcher × IsValue (code_at s m) m.next recovery
 AreAlternativesAt s m (Findall list results) = IsValue (code_at s m) m.next list × AreResultsFrom m.next results
-AreAlternativesAt s m QueryEnd = Unit {0}
+AreAlternativesAt s m QueryEnd = m ≡ s.floor
 
 -- a choice point over so many others, of which so many frames are kept: it keeps these and its own, and what it goes on
 -- with cuts to those others alone

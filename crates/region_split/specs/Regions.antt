@@ -23,7 +23,7 @@ pub record RegionView : Type 0 where
   pub choices : List ChoicePoint
 
 abbrev pub region_setting : List NamedTerm → RegionView → RegionSetting
-region_setting named r = record { text = r.text; program = r.store.program; names = r.store.names; frames = r.frames; named = named }
+region_setting named r = record { text = r.text; program = r.store.program; names = r.store.names; floor = r.store.floor; frames = r.frames; named = named }
 
 -- what the choice points stand for, where the query's named variables are these terms before anything is bound
 abbrev pub standing : List NamedTerm → RegionView → Standing

@@ -9,7 +9,7 @@ ghost use Rattle.clause_compile.specs.AtomNumbers.{name_at};
 ghost use Rattle.cell_store.specs.UnificationSteps.{IsUnified, OnlyBinds};
 ghost use Rattle.au_model.specs.Terms.Named.{NamedTerm};
 ghost use Rattle.region_split.specs.ChoicePoints.{frames_kept, height_of_cut, IsMarkOf};
-ghost use Rattle.region_split.specs.QueryEnds.{AreEndsOldest, MayComeOver};
+ghost use Rattle.region_split.specs.QueryEnds.{AreEndsAtFloor, AreEndsOldest, MayComeOver};
 ghost use Rattle.region_split.specs.Regions.{entries_of, heights_of, items_here, IsLeftAt, IsItemHere, IsPositionIn, IsPositionOver, AreAlternativesIn};
 ghost use Rattle.region_split.specs.StackOperations.{new_region, item_here, KeepsPositions, PutsBefore, AddsFrame, AddsChoice, CutsTo, TakesNewest, DropsNewest, HasNoClauseOnTop, TakesClause, HasNoSolutionOnTop, TakesSolution, HasFindallAt, AddsResult, StaysStanding};
 
@@ -98,10 +98,11 @@ impl Region {
         self.choices.len()
     }
 
-    /// The ends of queries are under all other choice points, each of which has its mark. Does nothing.
+    /// The ends of queries are under all other choice points, each of which has its mark, and came at the floor. Does nothing.
     #[inline(always)]
     pub fn ends_are_oldest(&self)
         ensures ends { AreEndsOldest self.now.choices }
+        ensures floor { AreEndsAtFloor self.now.store.floor self.now.choices self.now.store.marks }
         ensures marks { length self.now.store.marks ≡ length self.now.choices }
     {
         // The proof reads off what holds of each region.
