@@ -100,9 +100,9 @@ names_unbound [] = refl
 names_unbound (v ∷ vs) = ap (λ ns. record { name = v.name; term = VarTerm v.number } ∷ ns) (names_unbound vs)
 
 -- a query that has not begun
-module _ (text : TextView) (q : Query) (n : ℕ) (r1 r2 r3 : RegionView) (end_at : Position) (begun : r1 ≡ record (new_region text) { store = with_numbers n (new_store text.code) }) (bound : n ≡ query_bound q) (a : AddsChoice r1 r2 QueryEnd end_at) where
+module _ (text : TextView) (q : Query) (n : ℕ) (r1 r2 r3 : RegionView) (end_at : Position) (begun : r1 ≡ record (new_region text) { store = over_floor (with_numbers n (new_store text.code)) }) (bound : n ≡ query_bound q) (a : AddsChoice r1 r2 QueryEnd end_at) where
   abbrev first : RegionView
-  first = record (new_region text) { store = with_numbers n (new_store text.code) }
+  first = record (new_region text) { store = over_floor (with_numbers n (new_store text.code)) }
 
   same_store : r2.store ≡ with_mark first.store
   same_store = ap (λ (x : RegionView). x.store) a.others ∙ ap (λ (x : RegionView). with_mark x.store) begun

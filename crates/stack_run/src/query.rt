@@ -43,6 +43,7 @@ fn open(alloc: Global, text: Arc<Text>, query: &Query) -> Result<(Region, Positi
         return Err(NoMemory);
     };
     region.fresh(variables)?;
+    region.set_floor();
     let end = region.nothing_left();
     region.push_choice(Alternatives::QueryEnd, end)?;
     let goals = terms_of(alloc, query.goals())?;

@@ -36,9 +36,9 @@ use Rattle.task_region.proofs.StandingRunLemmas.{deferred_further, outer_marks, 
 abbrev pub changed_to : TaskView → RegionView → TaskView
 changed_to t r = record t { region = r; next = None }
 
-module _ (t : TaskView) (r1 : RegionView) (text : r1.text ≡ t.region.text) where
+module _ (t : TaskView) (r1 : RegionView) (text : r1.text ≡ t.region.text) (start : r1.store.floor ≡ t.region.store.floor) where
   same : SameTask t (changed_to t r1)
-  same = record { text = text; floor = refl; variables = refl; deferred = refl }
+  same = record { text = text; start = start; floor = refl; variables = refl; deferred = refl }
 
   pub goal_ahead : (item : FrameItem) (g : GoalPlace) → LiesAhead t.region r1 t.next (Goal item g) → LooksAhead t (changed_to t r1) (task.Goal item g)
   goal_ahead item g l = record {
@@ -52,7 +52,7 @@ module _ (t : TaskView) (r1 : RegionView) (text : r1.text ≡ t.region.text) whe
     stands = λ r k named s.
         let all = carried named t.deferred in
         let h = looking_stands r k all t.region r1 t.next (Answer p) s.stands l in (
-          record { own = own_run_of r named t (record (changed_to t r1) { next = Some p }) (record { text = text; floor = refl; variables = refl; deferred = refl }) s.own; stands = h },
+          record { own = own_run_of r named t (record (changed_to t r1) { next = Some p }) (record { text = text; start = start; floor = refl; variables = refl; deferred = refl }) s.own; stands = h },
           nothing_stops r k (continuation_here all r1 p) (entries_of all r1) (ap (λ (f : Continuation ℕ). f.items) (nothing_is r1 p l.there.items all)) h,
         );
     there = ((l.there.position, refl), (λ e. e));
@@ -82,7 +82,7 @@ takes_of xs ys e old new number reached known is h =
     subst (TakesUpDeferred old new (map item_of ys) number) is (subst (λ items. TakesUpDeferred old new (map item_of items) number reached) e h)
 
 -- what is deferred comes next
-module _ (t : TaskView) (r1 : RegionView) (text : r1.text ≡ t.region.text) (number : ℕ) (follows : Position) (l : LiesAhead t.region r1 t.next (Removal number follows))
+module _ (t : TaskView) (r1 : RegionView) (text : r1.text ≡ t.region.text) (start : r1.store.floor ≡ t.region.store.floor) (number : ℕ) (follows : Position) (l : LiesAhead t.region r1 t.next (Removal number follows))
     (deferred : Each (IsDeferredOver t.variables t.floor) t.deferred) (ends : AreEndsOldest r1.choices) (marks : length r1.store.marks ≡ length r1.choices) where
   module _ (r : RegionRun) (k : ℕ) (named : List NamedTerm) (s : StandsOnRun r k named t) where
     abbrev all : List NamedTerm
@@ -120,7 +120,7 @@ module _ (t : TaskView) (r1 : RegionView) (text : r1.text ≡ t.region.text) (nu
     stands = λ r k named s.
         subst (λ items. StandsAfter r k (goal_stack named items r2 item g)) s.own.items (takes.taken r k named follows s.own.items (comes r k named s));
     there = takes.there;
-    same = record { text = takes.text ∙ text; floor = refl; variables = refl; deferred = refl };
+    same = record { text = takes.text ∙ text; start = takes.floor ∙ start; floor = refl; variables = refl; deferred = refl };
   }
 
   -- or it is left from a number on
@@ -129,7 +129,7 @@ module _ (t : TaskView) (r1 : RegionView) (text : r1.text ≡ t.region.text) (nu
     left = record t { region = r3; next = Some p }
 
     left_same : SameTask t left
-    left_same = record { text = leaves.text ∙ (ap (λ (x : RegionView). x.text) unchanged ∙ text); floor = refl; variables = refl; deferred = refl }
+    left_same = record { text = leaves.text ∙ (ap (λ (x : RegionView). x.text) unchanged ∙ text); start = leaves.floor ∙ (ap (λ (x : RegionView). x.store.floor) unchanged ∙ start); floor = refl; variables = refl; deferred = refl }
 
     module _ (r : RegionRun) (k : ℕ) (named : List NamedTerm) (s : StandsOnRun r k named t) (there : ComesToDeferred r k named r1 n follows) where
       abbrev there_stack : List Entry
@@ -151,7 +151,7 @@ module _ (t : TaskView) (r1 : RegionView) (text : r1.text ≡ t.region.text) (nu
           let h = at r k named s in
           (stands_left r k named s h.0, subst (λ st. StandsAtGate r k st WorldGate) (sym (stack_is r k named s h.0)) h.1);
       there = ((leaves.position, refl), (λ e. e));
-      same = record { text = left_same.text; floor = refl; variables = refl; deferred = refl };
+      same = record { text = left_same.text; start = left_same.start; floor = refl; variables = refl; deferred = refl };
     }
 
   pub answer_next : (n : ℕ) (r2 r3 : RegionView) (p : Position) → TakesUpDeferred r1 r2 t.deferred number (after.Answer n) → LeavesItems r2 r3 (rest_items n) p
@@ -174,5 +174,5 @@ module _ (t : TaskView) (r1 : RegionView) (text : r1.text ≡ t.region.text) (nu
           subst (ComesToResult r k) (sym (stack_is n r2 r3 p leaves takes.there.1 r k named s h.0)) h.1,
         );
     there = ((leaves.position, refl), (λ e. e));
-    same = record { text = (left_same n r2 r3 p leaves takes.there.1).text; floor = refl; variables = refl; deferred = refl };
+    same = record { text = (left_same n r2 r3 p leaves takes.there.1).text; start = (left_same n r2 r3 p leaves takes.there.1).start; floor = refl; variables = refl; deferred = refl };
   }

@@ -119,6 +119,7 @@ module _ (old : RegionView) (items : List (Item ℕ)) (start reached : ℕ) (ski
     stands = λ named. refl;
     choices = refl;
     text = refl;
+    floor = refl;
     next = refl;
   }
 
@@ -131,6 +132,7 @@ module _ (old : RegionView) (items : List (Item ℕ)) (start reached : ℕ) (ski
     stands = λ named. refl;
     choices = refl;
     text = refl;
+    floor = refl;
     next = refl;
   }
 
@@ -143,6 +145,7 @@ module _ (old : RegionView) (items : List (Item ℕ)) (start reached : ℕ) (ski
     stands = λ named. refl;
     choices = refl;
     text = refl;
+    floor = refl;
     next = refl;
   }
 
@@ -155,5 +158,6 @@ module _ (old : RegionView) (items : List (Item ℕ)) (start reached : ℕ) (ski
     stands = l.stands;
     choices = l.choices;
     text = l.text;
+    floor = l.floor;
     next = l.next;
   }

@@ -5,6 +5,7 @@ use Rattle.au_model.specs.Terms.Named.{NamedTerm}
 use Rattle.au_model.specs.Terms.Each.{Each}
 use Rattle.au_model.proofs.EachLemmas.{each-append}
 use Rattle.run_model.specs.Machine.Entries.{EndEntry}
+use Rattle.cell_store.specs.StoreView.{over_floor as floored}
 use Rattle.region_split.specs.ChoicePoints.{Standing, alternative_entries, continuation_at, height_of_cut, standing_over, nothing_standing}
 use Rattle.region_split.specs.QueryEnds.{IsEnd}
 use Rattle.region_split.specs.Regions.{RegionView, region_setting, standing, entries_of, heights_of}
@@ -16,20 +17,21 @@ use Rattle.region_floor.specs.BareFloors.{bare_floor}
 use Rattle.region_floor.proofs.FloorSizeLemmas.{bare-size}
 use Rattle.task_region.specs.BareRegions.{IsOverFloor, LaysFloor}
 
-none_there : (cs : List ChoicePoint) → length cs ≡ 0 → cs ≡ []
+pub none_there : (cs : List ChoicePoint) → length cs ≡ 0 → cs ≡ []
 none_there [] e = refl
 none_there (c ∷ cs) e = absurd (omega (arith, e))
 
 -- no end yet
-pub no_floor : (r : RegionView) → length r.choices ≡ 0 → LaysFloor r r 0
-no_floor r e = record {
+pub no_floor : (r new : RegionView) → new ≡ record r { store = floored r.store } → length r.choices ≡ 0 → LaysFloor r new 0
+no_floor r new set e = subst (λ x. LaysFloor r x 0) (sym set) (record {
   entries = λ named. ap (λ (cs : List ChoicePoint). (standing_over (region_setting named r) nothing_standing cs r.store.marks).entries) (none_there r.choices e);
   below = λ named cut lt. absurd (omega (arith, lt));
   many = e;
   ends = subst (Each (λ c. IsEnd c.alternatives)) (sym (none_there r.choices e)) tt;
   text = refl;
   now = refl;
-}
+  start = refl;
+})
 
 -- one more
 module _ (old r new : RegionView) (count : ℕ) (nothing : Position) (w : LaysFloor old r count) (a : AddsChoice r new QueryEnd nothing) where
@@ -58,6 +60,7 @@ module _ (old r new : RegionView) (count : ℕ) (nothing : Position) (w : LaysFl
     ends = subst (λ (x : RegionView). Each (λ c. IsEnd c.alternatives) x.choices) (sym a.others) (each-append (λ c. IsEnd c.alternatives) r.choices (a.choice ∷ []) w.ends (subst IsEnd (sym a.is.0) tt, tt));
     text = ap (λ (x : RegionView). x.text) a.others ∙ w.text;
     now = ap (λ (x : RegionView). x.store.now) a.others ∙ w.now;
+    start = ap (λ (x : RegionView). x.store.floor) a.others ∙ w.start;
   }
 
 -- a region that has its floor alone

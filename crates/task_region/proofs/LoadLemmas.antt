@@ -59,5 +59,6 @@ module _ (r r1 r2 : RegionView) (nothing rest : Position) (none : items_here r n
     stands = λ named. stays.stands named ∙ removal.stands named;
     choices = same_choices;
     text = ap (λ (x : RegionView). x.text) stays.others ∙ ap (λ (x : RegionView). x.text) removal.others;
+    floor = stays.floor ∙ ap (λ (x : RegionView). x.store.floor) removal.others;
     next = adds.next ∙ ap (λ (st : StoreView). st.now.next) same_store;
   }

@@ -82,6 +82,7 @@ goal_left old new i g there p put = record {
   entry = λ named. ap PlainEntry (put.goes_on named);
   entries = λ named. ap (λ (st : Standing). st.entries) (put.stands named);
   text = ap (λ (x : RegionView). x.text) put.others;
+  floor = ap (λ (x : RegionView). x.store.floor) put.others;
 }
 
 cut_callable : (goal : Term) → IsCutGoal goal → IsCutCall goal
@@ -121,12 +122,12 @@ module _ (t : TaskView) (i : FrameItem) (g : GoalPlace) (there : IsGoalThere t.r
 
     on_run : (r : RegionRun) (k : ℕ) (named : List NamedTerm) → IsOwnRun r named t → StandsAfter r k (goal_stack named t.deferred t.region i g) → StandsOnRun r k named left
     on_run r k named own h = record {
-      own = own_run_of r named t left (record { text = l.text; floor = refl; variables = refl; deferred = refl }) own;
+      own = own_run_of r named t left (record { text = l.text; start = l.floor; floor = refl; variables = refl; deferred = refl }) own;
       stands = subst (StandsAfter r k) (sym (stack_is named)) h;
     }
 
     left_same : SameTask t (changed_to t new)
-    left_same = record { text = l.text; floor = refl; variables = refl; deferred = refl }
+    left_same = record { text = l.text; start = l.floor; floor = refl; variables = refl; deferred = refl }
 
     pub limit_stops : (more : Bool) → more ≡ false → TakesGoalNext t (changed_to t new) i g more (Stops stop.Limit (Some p))
     limit_stops more e = record {
@@ -150,7 +151,7 @@ module _ (t : TaskView) (i : FrameItem) (g : GoalPlace) (there : IsGoalThere t.r
     }
 
   -- or it is taken
-  module _ (new : RegionView) (after : AfterGoal) (x : InfersItem t.region new i g after) (no_cut : g.cut < t.floor → IsCutItem t.region.store i → ⊥) (text : new.text ≡ t.region.text) where
+  module _ (new : RegionView) (after : AfterGoal) (x : InfersItem t.region new i g after) (no_cut : g.cut < t.floor → IsCutItem t.region.store i → ⊥) (text : new.text ≡ t.region.text) (start : new.store.floor ≡ t.region.store.floor) where
     high : (floor : ℕ) → floor ≡ t.floor → (g.cut < t.floor) ⊎ (t.floor ≤ g.cut) → outcome_of t.region.text.clauses a.goal t.region.store.now.next ≡ Controls CutToScope → floor ≤ g.cut
     high floor e (inl lt) is =
         absurd (no_cut lt (subst (λ o. IsSomeAnd o IsCutCall) (sym a.is) (cut_callable a.goal (cuts_are_named t.region.text.clauses a.goal t.region.store.now.next is))))
@@ -162,12 +163,12 @@ module _ (t : TaskView) (i : FrameItem) (g : GoalPlace) (there : IsGoalThere t.r
         inference_stands r k (carried named t.deferred) t.region new a.goal g after (comes r k named own h) (high (length r.levels) own.levels (cases_lt g.cut t.floor)) (x a.goal a.is)
 
     taken_same : SameTask t (changed_to t new)
-    taken_same = record { text = text; floor = refl; variables = refl; deferred = refl }
+    taken_same = record { text = text; start = start; floor = refl; variables = refl; deferred = refl }
 
     next_run : (r : RegionRun) (k : ℕ) (named : List NamedTerm) (next : Option Position) → IsOwnRun r named t → StandsAfter r (suc k) (task_stack named (record t { region = new; next = next }))
         → StandsOnRun r (k + 1) named (record t { region = new; next = next })
     next_run r k named next own h = record {
-      own = own_run_of r named t (record t { region = new; next = next }) (record { text = text; floor = refl; variables = refl; deferred = refl }) own;
+      own = own_run_of r named t (record t { region = new; next = next }) (record { text = text; start = start; floor = refl; variables = refl; deferred = refl }) own;
       stands = subst (λ n. StandsAfter r n (task_stack named (record t { region = new; next = next }))) (let e : suc k ≡ k + 1 = omega arith in e) h;
     }
 

@@ -30,7 +30,7 @@ pub record IsRunning (old here : TaskView) (taken : ℕ) : Type 0 where
   pub same : SameTask old here
 
 same_twice : (x y z : TaskView) → SameTask x y → SameTask y z → SameTask x z
-same_twice x y z a b = record { text = b.text ∙ a.text; floor = b.floor ∙ a.floor; variables = b.variables ∙ a.variables; deferred = b.deferred ∙ a.deferred }
+same_twice x y z a b = record { text = b.text ∙ a.text; start = b.start ∙ a.start; floor = b.floor ∙ a.floor; variables = b.variables ∙ a.variables; deferred = b.deferred ∙ a.deferred }
 
 -- a round is what lies ahead, or what is taken of it
 pub goal_round : (old : TaskView) (r1 r2 : RegionView) (item : FrameItem) (g : GoalPlace) (more : Bool) (round : TaskRound) → LooksAhead old (changed_to old r1) (ahead.Goal item g)
@@ -54,7 +54,7 @@ pub running_begun : (t : TaskView) → IsUnderWay t → IsRunning t t 0
 running_begun t way = record {
   stands = λ r k named s. subst (λ n. StandsOnRun r n named t) (let e : k ≡ k + 0 = omega arith in e) s;
   way = way;
-  same = record { text = refl; floor = refl; variables = refl; deferred = refl };
+  same = record { text = refl; start = refl; floor = refl; variables = refl; deferred = refl };
 }
 
 pub below_limit : (taken limit : ℕ) → nat_lt taken limit ≡ true → taken + 1 ≤ limit
@@ -72,7 +72,7 @@ module _ (old here : TaskView) (taken : ℕ) (w : IsRunning old here taken) (way
           next = p.there.0;
           run = record { run = way.run.run; inferences = way.run.inferences + (taken + 1); named = way.run.named; stands = stands way.run.run way.run.inferences way.run.named way.run.stands };
         };
-        same = same_twice old here (record new { next = next }) w.same (record { text = p.same.text; floor = p.same.floor; variables = p.same.variables; deferred = p.same.deferred });
+        same = same_twice old here (record new { next = next }) w.same (record { text = p.same.text; start = p.same.start; floor = p.same.floor; variables = p.same.variables; deferred = p.same.deferred });
       }
 
   pub stops_here : (new : TaskView) (more : Bool) (stop : TaskStop) (next : Option Position) (limit : ℕ) → PassesRound here new more (Stops stop next) → taken ≤ limit → more ≡ nat_lt taken limit
@@ -82,7 +82,7 @@ module _ (old here : TaskView) (taken : ℕ) (w : IsRunning old here taken) (way
     within = le;
     all = λ u. full (p.there.1 u);
     there = p.there.0;
-    same = same_twice old here (record new { next = next }) w.same (record { text = p.same.text; floor = p.same.floor; variables = p.same.variables; deferred = p.same.deferred });
+    same = same_twice old here (record new { next = next }) w.same (record { text = p.same.text; start = p.same.start; floor = p.same.floor; variables = p.same.variables; deferred = p.same.deferred });
   }
     where
       full : more ≡ false → taken ≡ limit
@@ -137,6 +137,6 @@ ended_task t limit e = record {
   within = omega arith;
   all = λ u. absurd u;
   next = e;
-  same = record { text = refl; floor = refl; variables = refl; deferred = refl };
+  same = record { text = refl; start = refl; floor = refl; variables = refl; deferred = refl };
   idle = λ e. (refl, refl, refl);
 }

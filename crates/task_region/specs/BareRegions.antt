@@ -15,7 +15,7 @@ pub record IsOverFloor (floor : ℕ) (named : List NamedTerm) (r : RegionView) :
   pub below : (cut : ℕ) → cut ≤ floor → height_of_cut (heights_of named r) cut ≡ cut
   pub above : (cut : ℕ) → floor ≤ cut → cut ≤ length r.choices → floor ≤ height_of_cut (heights_of named r) cut
 
--- a floor of so many ends was put into a region that had no choice point
+-- a floor of so many ends was put into a region that had no choice point, at what its store had bound
 pub record LaysFloor (old new : RegionView) (floor : ℕ) : Type 0 where
   pub entries : (named : List NamedTerm) → entries_of named new ≡ bare_floor floor
   pub below : (named : List NamedTerm) (cut : ℕ) → cut < floor → height_of_cut (heights_of named new) cut ≡ cut
@@ -23,6 +23,7 @@ pub record LaysFloor (old new : RegionView) (floor : ℕ) : Type 0 where
   pub ends : Each (λ c. IsEnd c.alternatives) new.choices
   pub text : new.text ≡ old.text
   pub now : new.store.now ≡ old.store.now
+  pub start : new.store.floor ≡ old.store.now
 
 -- the ends of queries are under all other choice points, and so they are the floor
 abbrev pub EndsAreFloor : Type 0

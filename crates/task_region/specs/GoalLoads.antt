@@ -31,6 +31,7 @@ pub record LeavesItems (old new : RegionView) (items : List ℕ → List (Item �
   pub stands : (named : List NamedTerm) → standing named new ≡ standing named old
   pub choices : new.choices ≡ old.choices
   pub text : new.text ≡ old.text
+  pub floor : new.store.floor ≡ old.store.floor
   pub next : new.store.now.next ≡ old.store.now.next
 
 -- what is deferred from a number on, and before that a goal as it is now
@@ -47,6 +48,7 @@ pub record LoadsGoal (old new : RegionView) (goal : Term) (cut number : ℕ) (it
   pub stands : (named : List NamedTerm) → standing named new ≡ standing named old
   pub choices : new.choices ≡ old.choices
   pub text : new.text ≡ old.text
+  pub floor : new.store.floor ≡ old.store.floor
   pub next : new.store.now.next ≡ old.store.now.next
 
 -- a goal is left where it stood
@@ -55,6 +57,7 @@ pub record LeavesGoal (old new : RegionView) (item : FrameItem) (g : GoalPlace) 
   pub entry : (named : List NamedTerm) → position_entry named new p ≡ goal_entry named old item g
   pub entries : (named : List NamedTerm) → entries_of named new ≡ entries_of named old
   pub text : new.text ≡ old.text
+  pub floor : new.store.floor ≡ old.store.floor
 
 -- a run has come to what it defers from a number on
 pub record ComesToDeferred (r : RegionRun) (k : ℕ) (named : List NamedTerm) (here : RegionView) (number : ℕ) (after : Position) : Type 0 where
@@ -86,4 +89,5 @@ pub record TakesUpDeferred (old new : RegionView) (items : List (Item ℕ)) (num
   pub stands : (named : List NamedTerm) → standing named new ≡ standing named old
   pub choices : new.choices ≡ old.choices
   pub text : new.text ≡ old.text
+  pub floor : new.store.floor ≡ old.store.floor
   pub next : new.store.now.next ≡ old.store.now.next

@@ -20,4 +20,5 @@ pub record StartsTask (old : RegionView) (floor : ℕ) (items : List (Item ℕ))
   pub deferred : t.deferred ≡ items
   pub variables : t.variables ≡ old.store.now.next
   pub text : t.region.text ≡ old.text
+  pub start : t.region.store.floor ≡ old.store.now
   pub next : t.region.store.now.next ≡ old.store.now.next

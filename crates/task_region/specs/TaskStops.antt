@@ -53,6 +53,7 @@ LeavesNext Empty next = next ≡ None
 -- what does not change while a task runs
 pub record SameTask (old new : TaskView) : Type 0 where
   pub text : new.region.text ≡ old.region.text
+  pub start : new.region.store.floor ≡ old.region.store.floor
   pub floor : new.floor ≡ old.floor
   pub variables : new.variables ≡ old.variables
   pub deferred : new.deferred ≡ old.deferred

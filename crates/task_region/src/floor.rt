@@ -12,6 +12,7 @@ pub(crate) fn lay_floor(region: &mut Region, count: u32) -> Result<(), NoMemory>
     ensures lays { OnOk result (LaysFloor region.old region.new count) }
     ensures over { OnOk result ((named : List NamedTerm) → IsOverFloor count named region.new) }
 {
+    region.set_floor();
     for _end in 0..count {
         let nothing = region.nothing_left();
         region.push_choice(Alternatives::QueryEnd, nothing)?;

@@ -8,35 +8,35 @@ use Rattle.task_region.proofs.ahead.task_ahead.Goals as goal
 
 pub returns-in-Goal : goal.returns-in-Goal
 returns-in-Goal c =
-    goal_ahead (view_of_task c.args.region.now c.args.task.now c.args.start) c.look_ahead.new.region c.in_ok-ahead.ensures.text c.in-Goal.item c.in-Goal.place
+    goal_ahead (view_of_task c.args.region.now c.args.task.now c.args.start) c.look_ahead.new.region c.in_ok-ahead.ensures.text c.in_ok-ahead.ensures.floor c.in-Goal.item c.in-Goal.place
     (subst (LiesAhead c.args.region.now c.look_ahead.new.region c.args.start) c.in-Goal.is c.in_ok-ahead.ensures.ahead)
 
 pub returns-in-Answer : goal.returns-in-Answer
 returns-in-Answer c =
-    answer_ahead (view_of_task c.args.region.now c.args.task.now c.args.start) c.look_ahead.new.region c.in_ok-ahead.ensures.text c.in-Answer.position
+    answer_ahead (view_of_task c.args.region.now c.args.task.now c.args.start) c.look_ahead.new.region c.in_ok-ahead.ensures.text c.in_ok-ahead.ensures.floor c.in-Answer.position
     (subst (LiesAhead c.args.region.now c.look_ahead.new.region c.args.start) c.in-Answer.is c.in_ok-ahead.ensures.ahead)
 
 pub returns-in-QueryDone : goal.returns-in-QueryDone
 returns-in-QueryDone c =
-    end_ahead (view_of_task c.args.region.now c.args.task.now c.args.start) c.look_ahead.new.region c.in_ok-ahead.ensures.text
+    end_ahead (view_of_task c.args.region.now c.args.task.now c.args.start) c.look_ahead.new.region c.in_ok-ahead.ensures.text c.in_ok-ahead.ensures.floor
     (subst (LiesAhead c.args.region.now c.look_ahead.new.region c.args.start) c.in-QueryDone.is c.in_ok-ahead.ensures.ahead)
 
 pub returns-in-AllDone : goal.returns-in-AllDone
 returns-in-AllDone c =
-    none_ahead (view_of_task c.args.region.now c.args.task.now c.args.start) c.look_ahead.new.region c.in_ok-ahead.ensures.text
+    none_ahead (view_of_task c.args.region.now c.args.task.now c.args.start) c.look_ahead.new.region c.in_ok-ahead.ensures.text c.in_ok-ahead.ensures.floor
     (subst (LiesAhead c.args.region.now c.look_ahead.new.region c.args.start) c.in-AllDone.is c.in_ok-ahead.ensures.ahead)
 
 pub take_deferred-requires : goal.take_deferred-requires
 take_deferred-requires c =
     let t = view_of_task c.args.region.now c.args.task.now c.args.start in
     let l = subst (LiesAhead c.args.region.now c.look_ahead.new.region c.args.start) c.in-Removal.is c.in_ok-ahead.ensures.ahead in
-    record { scoped = subst (λ items. Each (IsDeferredOver c.look_ahead.new.region.store.now.next (length c.look_ahead.new.region.choices)) (map item_of items)) (sym c.deref.ensures.value) (may_take t c.look_ahead.new.region c.in_ok-ahead.ensures.text c.in-Removal.number c.in-Removal.field-1 l c.requires.deferred c.ends_are_oldest.ensures.ends c.ends_are_oldest.ensures.marks c.requires) }
+    record { scoped = subst (λ items. Each (IsDeferredOver c.look_ahead.new.region.store.now.next (length c.look_ahead.new.region.choices)) (map item_of items)) (sym c.deref.ensures.value) (may_take t c.look_ahead.new.region c.in_ok-ahead.ensures.text c.in_ok-ahead.ensures.floor c.in-Removal.number c.in-Removal.field-1 l c.requires.deferred c.ends_are_oldest.ensures.ends c.ends_are_oldest.ensures.marks c.requires) }
 
 pub returns-in-Goal-reached : goal.returns-in-Goal-reached
 returns-in-Goal-reached c =
     let t = view_of_task c.args.region.now c.args.task.now c.args.start in
     let l = subst (LiesAhead c.args.region.now c.look_ahead.new.region c.args.start) c.in-Removal.is c.in_ok-ahead.ensures.ahead in
-    goal_next t c.look_ahead.new.region c.in_ok-ahead.ensures.text c.in-Removal.number c.in-Removal.field-1 l c.requires.deferred c.ends_are_oldest.ensures.ends c.ends_are_oldest.ensures.marks
+    goal_next t c.look_ahead.new.region c.in_ok-ahead.ensures.text c.in_ok-ahead.ensures.floor c.in-Removal.number c.in-Removal.field-1 l c.requires.deferred c.ends_are_oldest.ensures.ends c.ends_are_oldest.ensures.marks
     c.take_deferred.new.region c.in-Goal-reached.item c.in-Goal-reached.place
     (takes_of c.deref.result.now c.args.task.now.deferred.items c.deref.ensures.value c.look_ahead.new.region c.take_deferred.new.region c.in-Removal.number c.in_ok-reached.reached _ c.in-Goal-reached.is c.in_ok-reached.ensures.takes)
 
@@ -44,7 +44,7 @@ pub returns-in_ok-position-in-Answer-reached : goal.returns-in_ok-position-in-An
 returns-in_ok-position-in-Answer-reached c =
     let t = view_of_task c.args.region.now c.args.task.now c.args.start in
     let l = subst (LiesAhead c.args.region.now c.look_ahead.new.region c.args.start) c.in-Removal.is c.in_ok-ahead.ensures.ahead in
-    answer_next t c.look_ahead.new.region c.in_ok-ahead.ensures.text c.in-Removal.number c.in-Removal.field-1 l c.requires.deferred c.ends_are_oldest.ensures.ends c.ends_are_oldest.ensures.marks
+    answer_next t c.look_ahead.new.region c.in_ok-ahead.ensures.text c.in_ok-ahead.ensures.floor c.in-Removal.number c.in-Removal.field-1 l c.requires.deferred c.ends_are_oldest.ensures.ends c.ends_are_oldest.ensures.marks
     c.in-Answer-reached.number c.take_deferred.new.region c.leave_rest.new.region c.in_ok-position-in-Answer-reached.position
     (takes_of c.deref.result.now c.args.task.now.deferred.items c.deref.ensures.value c.look_ahead.new.region c.take_deferred.new.region c.in-Removal.number c.in_ok-reached.reached _ c.in-Answer-reached.is c.in_ok-reached.ensures.takes) c.in_ok-position-in-Answer-reached.ensures.leaves
 
@@ -52,7 +52,7 @@ pub returns-in_ok-position-in-Result : goal.returns-in_ok-position-in-Result
 returns-in_ok-position-in-Result c =
     let t = view_of_task c.args.region.now c.args.task.now c.args.start in
     let l = subst (LiesAhead c.args.region.now c.look_ahead.new.region c.args.start) c.in-Removal.is c.in_ok-ahead.ensures.ahead in
-    result_next t c.look_ahead.new.region c.in_ok-ahead.ensures.text c.in-Removal.number c.in-Removal.field-1 l c.requires.deferred c.ends_are_oldest.ensures.ends c.ends_are_oldest.ensures.marks
+    result_next t c.look_ahead.new.region c.in_ok-ahead.ensures.text c.in_ok-ahead.ensures.floor c.in-Removal.number c.in-Removal.field-1 l c.requires.deferred c.ends_are_oldest.ensures.ends c.ends_are_oldest.ensures.marks
     c.in-Result.number c.take_deferred.new.region c.leave_rest-in-Result.new.region c.in_ok-position-in-Result.position
     (takes_of c.deref.result.now c.args.task.now.deferred.items c.deref.ensures.value c.look_ahead.new.region c.take_deferred.new.region c.in-Removal.number c.in_ok-reached.reached _ c.in-Result.is c.in_ok-reached.ensures.takes) c.in_ok-position-in-Result.ensures.leaves
 
@@ -60,6 +60,6 @@ pub returns-in_ok-position-in-Removal-reached : goal.returns-in_ok-position-in-R
 returns-in_ok-position-in-Removal-reached c =
     let t = view_of_task c.args.region.now c.args.task.now c.args.start in
     let l = subst (LiesAhead c.args.region.now c.look_ahead.new.region c.args.start) c.in-Removal.is c.in_ok-ahead.ensures.ahead in
-    removal_next t c.look_ahead.new.region c.in_ok-ahead.ensures.text c.in-Removal.number c.in-Removal.field-1 l c.requires.deferred c.ends_are_oldest.ensures.ends c.ends_are_oldest.ensures.marks
+    removal_next t c.look_ahead.new.region c.in_ok-ahead.ensures.text c.in_ok-ahead.ensures.floor c.in-Removal.number c.in-Removal.field-1 l c.requires.deferred c.ends_are_oldest.ensures.ends c.ends_are_oldest.ensures.marks
     c.in-Removal-reached.number c.in-Removal-reached.clause c.take_deferred.new.region c.leave_rest-in-Removal-reached.new.region c.in_ok-position-in-Removal-reached.position
     (takes_of c.deref.result.now c.args.task.now.deferred.items c.deref.ensures.value c.look_ahead.new.region c.take_deferred.new.region c.in-Removal.number c.in_ok-reached.reached _ c.in-Removal-reached.is c.in_ok-reached.ensures.takes) c.in_ok-position-in-Removal-reached.ensures.leaves

@@ -29,7 +29,7 @@ returns-in-At c =
     let not_cut : c.args.goal.1.cut < c.args.task.now.floor → IsCutItem c.args.region.now.store c.args.goal.0 → ⊥ =
     λ low cut. told_apart c.cuts_to_floor.result (c.cuts_to_floor.ensures.1 (low, subst (λ (st : StoreView). IsCutItem st c.args.goal.0) (sym c.store.ensures.store) cut)) c.if-cuts_to_floor.false in
     subst (λ more. TakesGoalNext t (changed_to t c.infer.new.region) c.args.goal.0 c.args.goal.1 more (GoesOn (Some c.in-At.position))) (sym c.if-not-more.false)
-    (goes_on_at t c.args.goal.0 c.args.goal.1 c.requires.there c.requires.deferred c.ends_are_oldest.ensures.ends c.ends_are_oldest.ensures.marks c.infer.new.region c.in_ok-after.after c.in_ok-after.ensures.infers not_cut c.in_ok-after.ensures.text c.in-At.position c.in-At.is)
+    (goes_on_at t c.args.goal.0 c.args.goal.1 c.requires.there c.requires.deferred c.ends_are_oldest.ensures.ends c.ends_are_oldest.ensures.marks c.infer.new.region c.in_ok-after.after c.in_ok-after.ensures.infers not_cut c.in_ok-after.ensures.text c.in_ok-after.ensures.floor c.in-At.position c.in-At.is)
 
 pub returns-in-Failed : goal.returns-in-Failed
 returns-in-Failed c =
@@ -37,7 +37,7 @@ returns-in-Failed c =
     let not_cut : c.args.goal.1.cut < c.args.task.now.floor → IsCutItem c.args.region.now.store c.args.goal.0 → ⊥ =
     λ low cut. told_apart c.cuts_to_floor.result (c.cuts_to_floor.ensures.1 (low, subst (λ (st : StoreView). IsCutItem st c.args.goal.0) (sym c.store.ensures.store) cut)) c.if-cuts_to_floor.false in
     subst (λ more. TakesGoalNext t (changed_to t c.infer.new.region) c.args.goal.0 c.args.goal.1 more (GoesOn None)) (sym c.if-not-more.false)
-    (fails_on t c.args.goal.0 c.args.goal.1 c.requires.there c.requires.deferred c.ends_are_oldest.ensures.ends c.ends_are_oldest.ensures.marks c.infer.new.region c.in_ok-after.after c.in_ok-after.ensures.infers not_cut c.in_ok-after.ensures.text c.in-Failed.is)
+    (fails_on t c.args.goal.0 c.args.goal.1 c.requires.there c.requires.deferred c.ends_are_oldest.ensures.ends c.ends_are_oldest.ensures.marks c.infer.new.region c.in_ok-after.after c.in_ok-after.ensures.infers not_cut c.in_ok-after.ensures.text c.in_ok-after.ensures.floor c.in-Failed.is)
 
 pub returns-in-Uncaught : goal.returns-in-Uncaught
 returns-in-Uncaught c =
@@ -45,18 +45,18 @@ returns-in-Uncaught c =
     let not_cut : c.args.goal.1.cut < c.args.task.now.floor → IsCutItem c.args.region.now.store c.args.goal.0 → ⊥ =
     λ low cut. told_apart c.cuts_to_floor.result (c.cuts_to_floor.ensures.1 (low, subst (λ (st : StoreView). IsCutItem st c.args.goal.0) (sym c.store.ensures.store) cut)) c.if-cuts_to_floor.false in
     subst (λ ball. TakesGoalNext t (changed_to t c.infer.new.region) c.args.goal.0 c.args.goal.1 c.args.more (Stops (Ball ball) None)) (sym c.into_inner.ensures)
-    (ball_falls t c.args.goal.0 c.args.goal.1 c.requires.there c.requires.deferred c.ends_are_oldest.ensures.ends c.ends_are_oldest.ensures.marks c.infer.new.region c.in_ok-after.after c.in_ok-after.ensures.infers not_cut c.in_ok-after.ensures.text c.args.more c.in-Uncaught.ball c.in-Uncaught.is)
+    (ball_falls t c.args.goal.0 c.args.goal.1 c.requires.there c.requires.deferred c.ends_are_oldest.ensures.ends c.ends_are_oldest.ensures.marks c.infer.new.region c.in_ok-after.after c.in_ok-after.ensures.infers not_cut c.in_ok-after.ensures.text c.in_ok-after.ensures.floor c.args.more c.in-Uncaught.ball c.in-Uncaught.is)
 
 pub leave_goal-requires-in-AsksWorld : goal.leave_goal-requires-in-AsksWorld
 leave_goal-requires-in-AsksWorld c =
     let t = view_of_task c.args.region.now c.args.task.now None in
     let not_cut : c.args.goal.1.cut < c.args.task.now.floor → IsCutItem c.args.region.now.store c.args.goal.0 → ⊥ =
     λ low cut. told_apart c.cuts_to_floor.result (c.cuts_to_floor.ensures.1 (low, subst (λ (st : StoreView). IsCutItem st c.args.goal.0) (sym c.store.ensures.store) cut)) c.if-cuts_to_floor.false in
-    subst (λ (r : RegionView). IsGoalThere r c.args.goal.0 c.args.goal.1) (sym (same_region t c.args.goal.0 c.args.goal.1 c.requires.there c.requires.deferred c.ends_are_oldest.ensures.ends c.ends_are_oldest.ensures.marks c.infer.new.region c.in_ok-after.after c.in_ok-after.ensures.infers not_cut c.in_ok-after.ensures.text c.in-AsksWorld.is)) c.requires.there
+    subst (λ (r : RegionView). IsGoalThere r c.args.goal.0 c.args.goal.1) (sym (same_region t c.args.goal.0 c.args.goal.1 c.requires.there c.requires.deferred c.ends_are_oldest.ensures.ends c.ends_are_oldest.ensures.marks c.infer.new.region c.in_ok-after.after c.in_ok-after.ensures.infers not_cut c.in_ok-after.ensures.text c.in_ok-after.ensures.floor c.in-AsksWorld.is)) c.requires.there
 
 pub returns-in_ok-position-in-AsksWorld : goal.returns-in_ok-position-in-AsksWorld
 returns-in_ok-position-in-AsksWorld c =
     let t = view_of_task c.args.region.now c.args.task.now None in
     let not_cut : c.args.goal.1.cut < c.args.task.now.floor → IsCutItem c.args.region.now.store c.args.goal.0 → ⊥ =
     λ low cut. told_apart c.cuts_to_floor.result (c.cuts_to_floor.ensures.1 (low, subst (λ (st : StoreView). IsCutItem st c.args.goal.0) (sym c.store.ensures.store) cut)) c.if-cuts_to_floor.false in
-    world_stops t c.args.goal.0 c.args.goal.1 c.requires.there c.requires.deferred c.ends_are_oldest.ensures.ends c.ends_are_oldest.ensures.marks c.infer.new.region c.in_ok-after.after c.in_ok-after.ensures.infers not_cut c.in_ok-after.ensures.text c.args.more c.in-AsksWorld.is c.leave_goal-in-AsksWorld.new.region c.in_ok-position-in-AsksWorld.position c.in_ok-position-in-AsksWorld.ensures
+    world_stops t c.args.goal.0 c.args.goal.1 c.requires.there c.requires.deferred c.ends_are_oldest.ensures.ends c.ends_are_oldest.ensures.marks c.infer.new.region c.in_ok-after.after c.in_ok-after.ensures.infers not_cut c.in_ok-after.ensures.text c.in_ok-after.ensures.floor c.args.more c.in-AsksWorld.is c.leave_goal-in-AsksWorld.new.region c.in_ok-position-in-AsksWorld.position c.in_ok-position-in-AsksWorld.ensures

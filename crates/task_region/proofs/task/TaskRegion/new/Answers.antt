@@ -35,6 +35,7 @@ returns c =
         deferred = refl;
         variables = c.next-variables.ensures.next ∙ ap (λ (st : StoreView). st.now.next) c.store.ensures.store;
         text = leaves.text ∙ lays.text;
+        start = leaves.floor ∙ lays.start;
         next = leaves.next ∙ ap (λ m. m.next) lays.now;
       };
     }
