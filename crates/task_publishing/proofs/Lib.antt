@@ -7,3 +7,4 @@ mod BodyLemmas
 mod StoppedLemmas
 mod SpotLemmas
 mod RunLemmas
+mod TaskLemmas

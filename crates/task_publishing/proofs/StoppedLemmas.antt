@@ -42,7 +42,7 @@ at_goal r k named t rest tops s g e =
       run = s.stands.run ∙ ap (λ (es : List Entry). Some es) rests;
     }
 
-no_next : (o : Option Position) → IsSome o → o ≡ None → ⊥
+pub no_next : (o : Option Position) → IsSome o → o ≡ None → ⊥
 no_next None some e = cc some
 no_next (Some p) some e = cc e
 
