@@ -8,3 +8,4 @@ mod StoppedLemmas
 mod SpotLemmas
 mod RunLemmas
 mod TaskLemmas
+mod JobLemmas
