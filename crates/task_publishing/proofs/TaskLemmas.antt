@@ -9,7 +9,7 @@ use Rattle.task_region.specs.TaskStandings.{StandsOnRun}
 use Rattle.task_region.specs.TaskStops.{LeavesNext, StopsTask}
 use Rattle.task_region.specs.TaskViews.{TaskView}
 use Rattle.task_region.specs.declared.running.TaskStop.{TaskStop}
-use Rattle.task_region.specs.declared.running.TaskStop.TheVariants.{Limit, Cut, World, Collect, Ball, Empty}
+use Rattle.task_region.specs.declared.running.TaskStop.TheVariants.{Ball, Empty}
 use Rattle.tree_model.specs.Levels.{Level, Place}
 use Rattle.tree_nodes.specs.Rows.{AlternativeCell, cell_at}
 use Rattle.tree_nodes.specs.TreeTables.{NodesView, IsTableOf, Stand, cell_of}
@@ -37,12 +37,9 @@ loaded_stop nodes a text old new limit ran l r job read v up was way at table on
 
 still_stands : (r : RegionRun) (k : ℕ) (named : List NamedTerm) (t : TaskView) (stop : TaskStop) → IsSome t.next → LeavesNext stop t.next → StopsTask r k named t stop
     → StandsOnRun r k named t
-still_stands r k named t Limit some next s = s.0
-still_stands r k named t (Cut node) some next s = s.0
-still_stands r k named t World some next s = s.0
-still_stands r k named t (Collect number) some next s = s.0
 still_stands r k named t (Ball ball) some next s = absurd (no_next t.next some next)
 still_stands r k named t Empty some next s = absurd (no_next t.next some next)
+still_stands r k named t stop some next s = s.0
 
 pub stopped_run_on : StoppedTasksRunOn
 stopped_run_on nodes a clauses k old new limit ran some stops r job read v up was way at table on =
