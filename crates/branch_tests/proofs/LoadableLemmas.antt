@@ -1,5 +1,5 @@
 -- Branches of one node or two that can be loaded.
-use Rattle.std.proofs.Common.{◌≡◌, ℕ, ℤ, ◌+◌, ◌==◌, Bool, true, false, cond, List, [], ◌∷◌, ◌++◌, Option, Some, None, refl, sym, ap, ap₂, ◌∙◌, subst, arith}
+use Rattle.std.proofs.Common.{◌≡◌, ℕ, ℤ, ◌+◌, ◌==◌, Bool, true, false, cond, [], ◌∷◌, ◌++◌, Option, Some, None, refl, sym, ap, ap₂, ◌∙◌, subst, arith}
 use Rattle.std.proofs.lemmas.Bool.Decides.{nat_tests}
 use Rattle.std.specs.Option.{option_map}
 use Rattle.std.specs.Bool.{OnTrue}
@@ -10,7 +10,6 @@ use Rattle.au_term.specs.Term.{Term, VarTerm, IntTerm, AtomTerm, Compound}
 use Rattle.au_term.specs.PrefixOrder.{top_of}
 use Rattle.au_term.specs.declared.cell.Cell.TheVariants.{Int as IntCell}
 use Rattle.au_term.specs.declared.segment.Binding.{Binding}
-use Rattle.au_term.specs.declared.segment.Segment.{Segment}
 use Rattle.au_model.specs.Terms.MostGeneral.{GoesByRules}
 use Rattle.au_model.specs.Terms.Unifier.{bound, unifier}
 use Rattle.clause_compile.specs.declared.event.Branch.{Branch}
@@ -19,8 +18,8 @@ use Rattle.tree_nodes.specs.Bodies.{Body, BodyKind, QueryBody, ChoiceBody, Branc
 use Rattle.tree_nodes.specs.Rows.{StoredNode, Rows, row_of_node, node_parent}
 use Rattle.tree_nodes.specs.TreeTables.{stored_body}
 use Rattle.branch_reading.specs.BranchSegments.{above_in_query, own_segments, segments_on, bindings_on, next_number}
-use Rattle.branch_reading.specs.SettledWays.{are_bindings_settled, are_segments_settled, branch_items, is_branch_settled, is_guard_settled, is_way_settled}
-use Rattle.branch_loading.specs.PlacesUp.{IsStepUp, LeadsUp, AreAllUp, missing_body, body_at, branching_at}
+use Rattle.branch_reading.specs.SettledWays.{are_bindings_settled, branch_items, is_branch_settled, is_guard_settled}
+use Rattle.branch_loading.specs.PlacesUp.{IsStepUp, missing_body, body_at}
 use Rattle.branch_loading.specs.TaskLoads.{is_task_at, CanBeLoaded, HasLoadableBranch}
 use Rattle.branch_tests.specs.SettledBranches.{IsBranchSettledAfter}
 

@@ -13,7 +13,7 @@ use std::test::Fail;
 use tree_nodes::{NodeBody, NodeKind};
 
 /// What a node is for, where it is for a choice point of a region.
-fn kind_of(kind: &NodeKind) -> Result<Option<Kind>, NoMemory> {
+pub(crate) fn kind_of(kind: &NodeKind) -> Result<Option<Kind>, NoMemory> {
     Ok(match kind {
         NodeKind::Choice => Some(Kind::Choice),
         NodeKind::Catch { catcher, recovery } => {

@@ -17,4 +17,6 @@ mod loads;
 #[cfg(test)]
 mod regions;
 #[cfg(test)]
+mod task_bodies;
+#[cfg(test)]
 mod tasks;

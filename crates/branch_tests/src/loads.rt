@@ -1,6 +1,8 @@
 //! Tables of nodes, and the tasks that are loaded from them.
 ghost use Rattle.std.specs.Prelude.{◌≡◌, IfOk, OnOk};
 ghost use Rattle.std.specs.Arc.{arc_value};
+ghost use Rattle.tree_model.specs.EventViews.{place_view};
+ghost use Rattle.branch_loading.specs.TaskLoads.{LoadsTask};
 
 use crate::common::{Top, number, top_of_cell, variable};
 use crate::loadable::is_loadable;
@@ -119,7 +121,8 @@ pub(crate) fn load(
     at: AltRef,
     text: Arc<Text>,
 ) -> Result<TaskRegion, Fail>
-    ensures { IfOk result (λ task. task.region.text ≡ arc_value text) }
+    ensures text { IfOk result (λ task. task.region.text ≡ arc_value text) }
+    ensures loads { IfOk result (LoadsTask nodes.now (place_view at) (arc_value text)) }
 {
     assert!(rt; nodes.has(at.node));
     assert!(rt; is_loadable(nodes, alloc, at)?);

@@ -32,7 +32,7 @@ use Rattle.branch_publishing.specs.PublishedRuns.{IsDeferredAt, MeanPublished, p
 use Rattle.region_capture.specs.CapturedRegions.{CapturesRegion, IsCaptureFloor, bound_at}
 use Rattle.region_capture.specs.declared.captured.Captured.{Captured}
 use Rattle.region_capture.specs.declared.captured.CapturedKind.TheVariants.{Choice}
-use Rattle.task_publishing.specs.OwnEntries.{placement_of, StandsForOwn, AreTakenOff, OwnEntriesAreTaken, OwnEntriesAreOverFloor}
+use Rattle.task_publishing.specs.OwnEntries.{IsOverEnds, placement_of, StandsForOwn, AreTakenOff, OwnEntriesAreTaken, OwnEntriesAreOverFloor}
 use Rattle.task_publishing.specs.OwnBodies.{HasOwn, HasSomeOwn, IsTakenOffTask, IsBranchAt, CanBePublished, IsBoundOnBranch, MeanOwn, MeanFromStart, MeanTask, AreNumbersUp}
 use Rattle.task_publishing.proofs.NodesDownLemmas.{numbers, nodes_down}
 
@@ -78,14 +78,14 @@ module _ (t : TaskView) (r : RegionView) (floor : ℕ) (p : Position) (law : Own
   marks_there : length t.region.store.marks ≡ length t.region.choices
   marks_there = subst (λ (x : RegionView). length x.store.marks ≡ length x.choices) same marks
 
-  own_floor : IsCaptureFloor t.floor t.region
+  own_floor : IsOverEnds t.floor t.region
   own_floor =
-      subst (λ n. IsCaptureFloor n t.region) h.has.floor
+      subst (λ n. IsOverEnds n t.region) h.has.floor
       (law h.levels h.named h.items t.region p h.own (stands_there t p h.levels h.named h.items h.own h.has next ends_there marks_there)
       (let s = h.some in let f = h.has.floor in omega (arith, s, f)))
 
   pub floor_there : IsCaptureFloor floor r
-  floor_there = subst (λ n. IsCaptureFloor n r) (sym floor_is) (subst (IsCaptureFloor t.floor) (sym same) own_floor)
+  floor_there = subst (λ n. IsCaptureFloor n r) (sym floor_is) (subst (IsCaptureFloor t.floor) (sym same) own_floor.floor_is)
 
   pub is_off : (new : RegionView) (c : Captured) → CapturesRegion r new floor p c → IsTakenOffTask t c
   is_off new c k = record {
@@ -137,7 +137,7 @@ module _ (nodes : NodesView) (a : Place) (t : TaskView) (c : Captured) (bodies :
     base_is = base_on nodes.rows v above way goals base on branch_there
 
     start : (m : Moment) × (slice_get t.region.store.marks (t.floor - 1) ≡ Some m)
-    start = got t.region.store.marks (t.floor - 1) (let m = off.marks in let s = off.floor.some in let l = off.floor.many in omega (arith, m, s, l))
+    start = got t.region.store.marks (t.floor - 1) (let m = off.marks in let s = off.floor.floor_is.some in let l = off.floor.floor_is.many in omega (arith, m, s, l))
 
     taken : AreTakenOff levels (length nodes.rows) named items (bound_at start.0) c own
     taken =
@@ -172,7 +172,7 @@ module _ (nodes : NodesView) (a : Place) (t : TaskView) (c : Captured) (bodies :
         }
 
     pub means_from_start : MeanFromStart job (length nodes.rows) levels way t bodies own
-    means_from_start = record { start = start.0; marked = start.1; mean = mean_own }
+    means_from_start = record { start = start.0; marked = start.1; newest = off.floor.newest; mean = mean_own }
 
   pub bodies_mean : MeanTask nodes a t bodies
   bodies_mean job read v above was way own at table on can has = means_from_start job read v above was way own at table on can has

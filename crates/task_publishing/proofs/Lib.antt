@@ -7,3 +7,5 @@ mod BodyLemmas
 mod StoppedLemmas
 mod SpotLemmas
 mod RunLemmas
+mod TaskLemmas
+mod JobLemmas

@@ -13,7 +13,7 @@ use Rattle.task_region.specs.TaskStandings.{IsOwnRun, StandsOnRun}
 use Rattle.task_region.specs.TaskStops.{LeavesNext, StopsTask}
 use Rattle.task_region.specs.TaskViews.{TaskView, task_stack}
 use Rattle.task_region.specs.declared.running.TaskStop.{TaskStop}
-use Rattle.task_region.specs.declared.running.TaskStop.TheVariants.{Limit, Cut, World, Collect, Ball, Empty}
+use Rattle.task_region.specs.declared.running.TaskStop.TheVariants.{Limit, Cut, Collect, Ball, Empty}
 
 -- own entries at rest
 pub record ComesToRest (r : RegionRun) (k : ℕ) (named : List NamedTerm) (t : TaskView) : Type 0 where
@@ -42,7 +42,7 @@ at_goal r k named t rest tops s g e =
       run = s.stands.run ∙ ap (λ (es : List Entry). Some es) rests;
     }
 
-no_next : (o : Option Position) → IsSome o → o ≡ None → ⊥
+pub no_next : (o : Option Position) → IsSome o → o ≡ None → ⊥
 no_next None some e = cc some
 no_next (Some p) some e = cc e
 
@@ -51,9 +51,10 @@ pub come_to_rest : (r : RegionRun) (k : ℕ) (named : List NamedTerm) (t : TaskV
 come_to_rest r k named t Limit rest tops some next s = at_goal r k named t rest tops s.0 s.1.0 s.1.1
 come_to_rest r k named t (Cut node) rest tops some next s =
     record { run_is = s.0.own; own = s.2.own; are_own = s.2.are_own; entries = s.2.entries; run = s.2.run }
-come_to_rest r k named t World rest tops some next s =
-    record { run_is = s.0.own; own = s.1.own; are_own = s.1.are_own; entries = s.1.entries; run = s.1.run }
 come_to_rest r k named t (Collect number) rest tops some next s =
     record { run_is = s.0.own; own = s.2.own; are_own = s.2.are_own; entries = s.2.entries; run = s.2.run }
 come_to_rest r k named t (Ball ball) rest tops some next s = absurd (no_next t.next some next)
 come_to_rest r k named t Empty rest tops some next s = absurd (no_next t.next some next)
+-- at a gate of the world
+come_to_rest r k named t gate rest tops some next s =
+    record { run_is = s.0.own; own = s.1.own; are_own = s.1.are_own; entries = s.1.entries; run = s.1.run }

@@ -45,7 +45,7 @@ use Rattle.region_capture.specs.declared.captured.CapturedKind.TheVariants.{Choi
 use Rattle.task_publishing.specs.OwnEntries.{deferred_over, placement_of, StandsForOwn, AreTakenOff, OwnEntriesAreTaken, OwnEntriesAreOverFloor}
 use Rattle.task_publishing.proofs.HeightLemmas.{groups, groups_more, stacked_more, captured_heights}
 use Rattle.task_publishing.proofs.JoinedLemmas.{NumbersUpTo, entry_joined, groups_joined}
-use Rattle.task_publishing.proofs.FloorEndLemmas.{none_over_floor}
+use Rattle.task_publishing.proofs.FloorEndLemmas.{none_over_floor, last_end}
 
 -- numbers of choice points
 numbers_up : (next cut many : ℕ) → cut ≤ many → (i : Item ℕ) → IsItemOver next cut i → HasNumbersUpTo many i
@@ -361,7 +361,10 @@ own_over_floor tops ends levels named items r p own stands some =
     let are_own = subst (AreOwn (length levels)) top.own_is stands.are_own in
     let over = ends all_named r levels top.below stands.ends stands.marks are_own.1 top.entries in
     record {
-      some = some;
-      many = over.many;
-      own = none_over_floor all_named r levels top.below stands.ends stands.marks are_own.1 top.entries;
+      floor_is = record {
+        some = some;
+        many = over.many;
+        own = none_over_floor all_named r levels top.below stands.ends stands.marks are_own.1 top.entries;
+      };
+      newest = last_end all_named r levels top.below stands.ends stands.marks are_own.1 top.entries some;
     }

@@ -1,5 +1,5 @@
 -- Bodies of nodes for the own entries that a task's region has left.
-use Rattle.std.specs.Prelude.{◌≡◌, ℕ, ◌+◌, ◌-◌, ◌≤◌, true, List, ◌∷◌, length, map, reverse, slice_get, Some}
+use Rattle.std.specs.Prelude.{◌≡◌, ℕ, ◌+◌, ◌-◌, ◌≤◌, true, List, ◌∷◌, length, map, reverse, slice_get, Some, IsSomeAnd}
 use Rattle.au_model.specs.Terms.Each.{Each}
 use Rattle.au_model.specs.Terms.MostGeneral.{SameValues}
 use Rattle.au_model.specs.Terms.Named.{NamedTerm}
@@ -9,10 +9,10 @@ use Rattle.run_model.specs.Programs.Jobs.{Job}
 use Rattle.clause_compile.specs.declared.event.Branch.{Branch}
 use Rattle.clause_compile.specs.declared.item.Item.{Item as BranchItem}
 use Rattle.cell_store.specs.StoreView.{Moment}
-use Rattle.region_split.specs.QueryEnds.{AreEndsOldest}
+use Rattle.region_split.specs.QueryEnds.{IsEnd, AreEndsOldest}
 use Rattle.region_split.specs.Regions.{RegionView}
 use Rattle.region_split.specs.declared.frame.Position.{Position}
-use Rattle.region_capture.specs.CapturedRegions.{CapturesRegion, IsCaptureFloor}
+use Rattle.region_capture.specs.CapturedRegions.{CapturesRegion}
 use Rattle.region_capture.specs.declared.captured.Captured.{Captured}
 use Rattle.tree_model.specs.Levels.{Level, Place, plug, place_at}
 use Rattle.tree_model.specs.Nodes.{Status}
@@ -29,7 +29,7 @@ use Rattle.branch_shapes.specs.MeantRuns.{MeanRun, placement_at}
 use Rattle.region_floor.specs.BareFloors.{AreOwn, bare_stack}
 use Rattle.region_floor.specs.Deferred.{joined_entry}
 use Rattle.task_region.specs.TaskViews.{TaskView, task_stack}
-use Rattle.task_publishing.specs.OwnEntries.{deferred_over}
+use Rattle.task_publishing.specs.OwnEntries.{deferred_over, IsOverEnds}
 
 -- a task stands for own entries over the bare floor of levels, and defers these items
 pub record HasOwn (levels : List Level) (named : List NamedTerm) (items : List BranchItem) (t : TaskView) (own : List Entry) : Type 0 where
@@ -53,7 +53,7 @@ pub record IsTakenOffTask (t : TaskView) (c : Captured) : Type 0 where
   pub next : t.next ≡ Some position
   pub left : RegionView
   pub captures : CapturesRegion t.region left t.floor position c
-  pub floor : IsCaptureFloor t.floor t.region
+  pub floor : IsOverEnds t.floor t.region
   pub ends : AreEndsOldest t.region.choices
   pub marks : length t.region.store.marks ≡ length t.region.choices
 
@@ -87,6 +87,7 @@ pub record MeanOwn (job : Job) (number : ℕ) (levels : List Level) (way : Branc
 pub record MeanFromStart (job : Job) (number : ℕ) (levels : List Level) (way : Branching) (t : TaskView) (bodies : List Body) (own : List Entry) : Type 0 where
   pub start : Moment
   pub marked : slice_get t.region.store.marks (t.floor - 1) ≡ Some start
+  pub newest : IsSomeAnd (slice_get t.region.choices (t.floor - 1)) (λ c. IsEnd c.alternatives)
   pub mean : IsBoundOnBranch way start → MeanOwn job number levels way start.bound bodies own
 
 -- of each tree for which the nodes stand, bodies mean the own entries for which a task stands, whatever the job is

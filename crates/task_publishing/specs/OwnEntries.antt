@@ -1,11 +1,11 @@
 -- Own entries of a region over the bare floor of a branch, and what is taken off the region for them.
-use Rattle.std.specs.Prelude.{◌≡◌, ℕ, ◌-◌, ◌≤◌, List, ◌∷◌, length, map, slice_get, Some}
+use Rattle.std.specs.Prelude.{◌≡◌, ℕ, ◌-◌, ◌≤◌, List, ◌∷◌, length, map, slice_get, Some, IsSomeAnd}
 use Rattle.au_model.specs.Terms.Each.{Each}
 use Rattle.au_model.specs.Terms.Named.{NamedTerm}
 use Rattle.run_model.specs.Machine.Entries.{Entry}
 use Rattle.clause_compile.specs.declared.item.Item.{Item as BranchItem}
 use Rattle.cell_store.specs.StoreView.{Moment}
-use Rattle.region_split.specs.QueryEnds.{AreEndsOldest}
+use Rattle.region_split.specs.QueryEnds.{IsEnd, AreEndsOldest}
 use Rattle.region_split.specs.Regions.{RegionView}
 use Rattle.region_split.specs.declared.frame.Position.{Position}
 use Rattle.region_floor.specs.BareFloors.{AreOwn, bare_stack}
@@ -57,8 +57,13 @@ OwnEntriesAreTaken =
     → StandsForOwn levels named items old p own → Each (NamesLevels levels) (items_meant items) → CapturesRegion old new (length levels) p c
     → slice_get old.store.marks (length levels - 1) ≡ Some start → AreTakenOff levels number named items (bound_at start) c own
 
--- they can be captured: none of them is the end of a query
+-- so many of the oldest choice points are the ends of a floor, at least one, and no others are ends
+pub record IsOverEnds (floor : ℕ) (r : RegionView) : Type 0 where
+  pub floor_is : IsCaptureFloor floor r
+  pub newest : IsSomeAnd (slice_get r.choices (floor - 1)) (λ c. IsEnd c.alternatives)
+
+-- so own entries can be captured
 abbrev pub OwnEntriesAreOverFloor : Type 0
 OwnEntriesAreOverFloor =
     (levels : List Level) (named : List NamedTerm) (items : List BranchItem) (r : RegionView) (p : Position) (own : List Entry)
-    → StandsForOwn levels named items r p own → 1 ≤ length levels → IsCaptureFloor (length levels) r
+    → StandsForOwn levels named items r p own → 1 ≤ length levels → IsOverEnds (length levels) r

@@ -1,20 +1,23 @@
 -- A task that has stopped on the private run of its alternative, and the nodes that are made of what it has left.
-use Rattle.std.specs.Prelude.{◌≡◌, ℕ, ◌-◌, List, ◌∷◌, slice_get, Some}
+use Rattle.std.specs.Prelude.{◌≡◌, ℕ, ◌+◌, ◌-◌, List, ◌∷◌, slice_get, Some, IsSome}
 use Rattle.run_model.specs.Programs.Clauses.{Clause}
 use Rattle.run_model.specs.Programs.Jobs.{Job}
 use Rattle.cell_store.specs.StoreView.{Moment}
+use Rattle.region_split.specs.Texts.{TextView}
 use Rattle.tree_model.specs.Events.{Nodes}
 use Rattle.tree_model.specs.Levels.{Level, Place, plug, place_at}
 use Rattle.tree_model.specs.Nodes.{Status}
 use Rattle.tree_nodes.specs.Bodies.{Branching, Reading}
-use Rattle.tree_nodes.specs.TreeTables.{NodesView, IsTableOf, IsWayTo}
+use Rattle.tree_nodes.specs.Rows.{cell_at}
+use Rattle.tree_nodes.specs.TreeTables.{NodesView, IsTableOf, IsWayTo, Stand}
 use Rattle.tree_core.specs.Histories.{History, while_going}
 use Rattle.branch_reading.specs.Readings.{named_of, query_on}
-use Rattle.branch_loading.specs.TaskLoads.{run_on_branch}
+use Rattle.branch_loading.specs.TaskLoads.{run_on_branch, LoadsTask}
 use Rattle.task_region.specs.TaskViews.{TaskView}
-use Rattle.task_region.specs.TaskStops.{LeavesNext, StopsTask}
+use Rattle.task_region.specs.TaskStops.{LeavesNext, StopsTask, RunsTask}
+use Rattle.task_region.specs.declared.running.TaskRan.{TaskRan}
 use Rattle.task_region.specs.declared.running.TaskStop.{TaskStop}
-use Rattle.task_publishing.specs.OwnBodies.{IsBoundOnBranch}
+use Rattle.task_publishing.specs.OwnBodies.{HasSomeOwn, IsBoundOnBranch}
 
 -- after so many inferences a task has stopped on the run of a branch
 pub record HasStopped (clauses : List Clause) (levels : List Level) (job : Job) (way : Branching) (k : ℕ) (t : TaskView) : Type 0 where
@@ -39,3 +42,17 @@ StartsBound nodes a t =
 pub record Publishes (old new : History) (w : ℕ) (a : Place) (k : ℕ) : Type 0 where
   pub sizes : List ℕ
   pub noted : new ≡ while_going (Nodes w a k sizes) old
+
+-- a task that was loaded and run stops there, and so does one that is run on
+abbrev pub LoadedTasksStop : Type 0
+LoadedTasksStop = (nodes : NodesView) (a : Place) (text : TextView) (old new : TaskView) (limit : ℕ) (ran : TaskRan) → LoadsTask nodes a text old
+    → RunsTask old new limit ran → StopsThere nodes a text.clauses ran.taken new
+
+abbrev pub StoppedTasksRunOn : Type 0
+StoppedTasksRunOn = (nodes : NodesView) (a : Place) (clauses : List Clause) (k : ℕ) (old new : TaskView) (limit : ℕ) (ran : TaskRan) → IsSome old.next
+    → StopsThere nodes a clauses k old → RunsTask old new limit ran → StopsThere nodes a clauses (k + ran.taken) new
+
+-- where it can go on, it stands for own entries
+abbrev pub StoppedTasksHaveOwn : Type 0
+StoppedTasksHaveOwn = (nodes : NodesView) (a : Place) (clauses : List Clause) (k : ℕ) (t : TaskView) → Stand nodes → IsSome (cell_at nodes.rows a) → IsSome t.next
+    → StopsThere nodes a clauses k t → HasSomeOwn t

@@ -1,8 +1,9 @@
-//! Laws of own entries over a bare floor: each function does nothing, and its contract is the law.
+//! Laws of what a task has left: each function does nothing, and its contract is the law.
 ghost use Rattle.task_publishing.specs.OwnEntries.{OwnEntriesAreOverFloor, OwnEntriesAreTaken};
+ghost use Rattle.task_publishing.specs.TaskRuns.{LoadedTasksStop, StoppedTasksHaveOwn, StoppedTasksRunOn};
 
 use branch_shapes::laws::floor_items_stay;
-use region_floor::laws::steps::{deferred_items_are_left, tops_are_own};
+use region_floor::laws::steps::{deferred_items_are_left, regions_run_privately, tops_are_own};
 use task_region::laws::ends_are_the_floor;
 
 /// Own entries of a region that are captured mean, with what was deferred in its place, the entries of alternatives that bodies are made
@@ -15,4 +16,14 @@ pub fn own_entries_are_taken()
     tops_are_own();
     ends_are_the_floor();
     floor_items_stay();
+}
+
+/// A task that was loaded and run, and run on, stops on the run of its alternative; where it can go on, it stands for own entries.
+pub fn tasks_stop_on_runs()
+    ensures loaded { LoadedTasksStop }
+    ensures on { StoppedTasksRunOn }
+    ensures own { StoppedTasksHaveOwn }
+{
+    regions_run_privately();
+    tops_are_own();
 }

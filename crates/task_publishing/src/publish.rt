@@ -28,7 +28,7 @@ pub fn publish_task<J: JobBrand>(
     requires some { 1 ≤ inferences }
     requires out { is_some (taken_at worker (place_view at) (state_of tree.old.history)) ≡ true }
     requires going { IsSome task.next }
-    requires stops { StopsThere tree.old.nodes (place_view at) (state_of tree.old.history).job.clauses inferences task }
+    requires stops { StopsThere tree.old.nodes (place_view at) tree.old.history.job.clauses inferences task }
     requires start { StartsBound tree.old.nodes (place_view at) task }
     ensures publishes { OnOk result (Publishes tree.old.history tree.new.history worker (place_view at) inferences) }
     ensures err { OnErr result (tree.new.history ≡ tree.old.history) }

@@ -1,4 +1,4 @@
-use Rattle.std.proofs.Common.{◌≡◌, Some, None, sym, ap, ◌∙◌}
+use Rattle.std.proofs.Common.{◌≡◌, Some, None}
 use Rattle.std.specs.Option.{option_map}
 use Rattle.tree_model.specs.EventViews.{place_view}
 use Rattle.tree_nodes.specs.Bodies.{body_view}
