@@ -9,6 +9,7 @@ mod deferred;
 mod floor;
 pub mod laws;
 mod loading;
+mod parts;
 mod rounds;
 mod running;
 mod start;
