@@ -144,7 +144,7 @@ fn reason(stop: &TaskStop) -> Why {
     match stop {
         TaskStop::Limit => Why::Limit,
         TaskStop::Cut(height) => Why::Cut(*height),
-        TaskStop::World => Why::World,
+        TaskStop::World(_, _) | TaskStop::Removal(_) | TaskStop::Answer => Why::World,
         TaskStop::Collect(number) => Why::Collect(*number),
         TaskStop::Ball(ball) => Why::Ball(top_of_cell(ball.top())),
         TaskStop::Empty => Why::Empty,

@@ -105,7 +105,7 @@ below-floor levels b mark (CatchEntry c r f ∷ es) l =
     go None k = k
     go (Some s) k = short (nat_le (length levels) (length es)) refl
 
-bare-falls : (b : Term) (mark : Option ℕ) (n : ℕ) → unwound b mark (bare_floor n) ≡ EndEntry (Some (copied b 0)) ∷ []
+pub bare-falls : (b : Term) (mark : Option ℕ) (n : ℕ) → unwound b mark (bare_floor n) ≡ EndEntry (Some (copied b 0)) ∷ []
 bare-falls b mark zero = refl
 bare-falls b mark (suc n) = bare-falls b mark n
 

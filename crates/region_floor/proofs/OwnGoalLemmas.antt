@@ -171,14 +171,14 @@ module _ (d : Deferred) (levels : List Level) where
       solution-plain m (joined_continuation d f) s e ∙ ap (unified (unifier s.equations)) (going-joined m f s)
       ∙ unified-joined (unifier s.equations) (going m f s) ∙ ap (map (joined_entry d)) (sym (solution-plain m f s e))
 
-  solutions-joined : (m : ℕ) (f : Continuation ℕ) (ss : List Solution) → Each RemovesNothing ss
+  pub solutions-joined : (m : ℕ) (f : Continuation ℕ) (ss : List Solution) → Each RemovesNothing ss
       → solution_entries m (joined_continuation d f) ss ≡ map (joined_entry d) (solution_entries m f ss)
   solutions-joined m f [] h = refl
   solutions-joined m f (s ∷ ss) h =
       ap₂ ◌++◌ (solution-joined m f s h.0) (solutions-joined m f ss h.1)
       ∙ sym (map-append (joined_entry d) (solution_entry m f s) (solution_entries m f ss))
 
-  solutions-own : (m : ℕ) (f : Continuation ℕ) (ss : List Solution) → Each RemovesNothing ss → AreOwnItems n f.items
+  pub solutions-own : (m : ℕ) (f : Continuation ℕ) (ss : List Solution) → Each RemovesNothing ss → AreOwnItems n f.items
       → AreOwn n (solution_entries m f ss)
   solutions-own m f [] h i = tt
   solutions-own m f (s ∷ ss) h i =

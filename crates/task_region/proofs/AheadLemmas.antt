@@ -2,9 +2,10 @@
 use Rattle.std.proofs.Common.{◌≡◌, ℕ, ◌≤◌, List, [], ◌∷◌, length, map, Some, None, refl, sym, ap, ◌∙◌, subst, arith}
 use Rattle.au_model.specs.Terms.Each.{Each}
 use Rattle.au_model.specs.Terms.Named.{NamedTerm}
-use Rattle.run_model.specs.Machine.Items.{RemovalItem, Continuation, before}
-use Rattle.run_model.specs.Machine.Entries.{Entry}
+use Rattle.run_model.specs.Machine.Items.{RemovalItem, Continuation, before, resolve_continuation}
+use Rattle.run_model.specs.Machine.Entries.{Entry, PlainEntry}
 use Rattle.tree_model.specs.Nodes.{WorldGate}
+use Rattle.cell_store.specs.StoreView.{StoreView}
 use Rattle.region_split.specs.QueryEnds.{AreEndsOldest}
 use Rattle.region_split.specs.Regions.{RegionView, entries_of, continuation_here}
 use Rattle.region_split.specs.declared.frame.FrameItem.{FrameItem}
@@ -20,7 +21,7 @@ use Rattle.task_region.specs.DeferredItems.{item_of, IsDeferredOver}
 use Rattle.task_region.specs.GoalLoads.{LeavesItems, rest_items, ComesToDeferred, TakesUpDeferred}
 use Rattle.task_region.specs.TaskViews.{TaskView, carried, position_stack, deferred_stack, goal_stack}
 use Rattle.task_region.specs.TaskStandings.{StandsOnRun, IsUnderWay}
-use Rattle.task_region.specs.TaskStops.{SameTask}
+use Rattle.task_region.specs.TaskStops.{AreNext, SameTask}
 use Rattle.task_region.specs.TaskRounds.{LooksAhead}
 use Rattle.task_region.specs.declared.ahead.TaskAhead.TheVariants as task
 use Rattle.task_region.specs.declared.deferred.DeferredItem.{DeferredItem}
@@ -31,6 +32,9 @@ use Rattle.task_region.proofs.DeferredLemmas.{rest_left}
 use Rattle.task_region.proofs.EngineLemmas.{looking_stands}
 use Rattle.task_region.proofs.LoadLemmas.{nothing_is}
 use Rattle.task_region.proofs.StandingRunLemmas.{deferred_further, outer_marks, own_run_of, floor_under}
+
+abbrev nothing_in : StoreView → List NamedTerm → Continuation ℕ
+nothing_in st named = resolve_continuation st.now.bound (record { items = []; named = named; next = st.now.next })
 
 -- the same task, after its region has changed, and before it is known where it goes on
 abbrev pub changed_to : TaskView → RegionView → TaskView
@@ -47,7 +51,7 @@ module _ (t : TaskView) (r1 : RegionView) (text : r1.text ≡ t.region.text) (st
     same = same;
   }
 
-  pub answer_ahead : (p : Position) → LiesAhead t.region r1 t.next (Answer p) → LooksAhead t (changed_to t r1) (task.Stops stop.World (Some p))
+  pub answer_ahead : (p : Position) → LiesAhead t.region r1 t.next (Answer p) → LooksAhead t (changed_to t r1) (task.Stops stop.Answer (Some p))
   answer_ahead p l = record {
     stands = λ r k named s.
         let all = carried named t.deferred in
@@ -55,7 +59,7 @@ module _ (t : TaskView) (r1 : RegionView) (text : r1.text ≡ t.region.text) (st
           record { own = own_run_of r named t (record (changed_to t r1) { next = Some p }) (record { text = text; start = start; floor = refl; variables = refl; deferred = refl }) s.own; stands = h },
           nothing_stops r k (continuation_here all r1 p) (entries_of all r1) (ap (λ (f : Continuation ℕ). f.items) (nothing_is r1 p l.there.items all)) h,
         );
-    there = ((l.there.position, refl), (λ e. e));
+    there = ((l.there.position, refl, ([], tt, λ named. ap (λ (f : Continuation ℕ). PlainEntry f ∷ []) (nothing_is r1 p l.there.items named))), (λ e. e));
     same = same;
   }
 
@@ -64,14 +68,14 @@ module _ (t : TaskView) (r1 : RegionView) (text : r1.text ≡ t.region.text) (st
     stands = λ r k named s.
         let all = carried named t.deferred in
         end_is_empty r k None (entries_of all r1) (looking_stands r k all t.region r1 t.next QueryDone s.stands l);
-    there = ((tt, refl), (λ e. e));
+    there = ((tt, refl, tt), (λ e. e));
     same = same;
   }
 
   pub none_ahead : LiesAhead t.region r1 t.next AllDone → LooksAhead t (changed_to t r1) (task.Stops stop.Empty None)
   none_ahead l = record {
     stands = λ r k named s. none_is_empty r k (looking_stands r k (carried named t.deferred) t.region r1 t.next AllDone s.stands l);
-    there = ((tt, refl), (λ e. e));
+    there = ((tt, refl, tt), (λ e. e));
     same = same;
   }
 
@@ -143,26 +147,31 @@ module _ (t : TaskView) (r1 : RegionView) (text : r1.text ≡ t.region.text) (st
       stands_left : StandsOnRun r k named left
       stands_left = record { own = own_run_of r named t left left_same s.own; stands = subst (StandsAfter r k) (sym stack_is) there.stands }
 
-    pub gate_next : ((r : RegionRun) (k : ℕ) (named : List NamedTerm) → StandsOnRun r k named t
-        → ComesToDeferred r k named r1 n follows × StandsAtGate r k (deferred_stack named r.deferred.items r1 n follows) WorldGate)
-        → LooksAhead t (changed_to t r3) (task.Stops stop.World (Some p))
-    gate_next at = record {
-      stands = λ r k named s.
-          let h = at r k named s in
-          (stands_left r k named s h.0, subst (λ st. StandsAtGate r k st WorldGate) (sym (stack_is r k named s h.0)) h.1);
-      there = ((leaves.position, refl), (λ e. e));
-      same = record { text = left_same.text; start = left_same.start; floor = refl; variables = refl; deferred = refl };
-    }
+    pub gate_next : (r : RegionRun) (k : ℕ) (named : List NamedTerm) → StandsOnRun r k named t
+        → ComesToDeferred r k named r1 n follows × StandsAtGate r k (deferred_stack named r.deferred.items r1 n follows) WorldGate
+        → StandsOnRun r k named left × StandsAtGate r k (position_stack named t.deferred r3 p) WorldGate
+    gate_next r k named s h = (stands_left r k named s h.0, subst (λ st. StandsAtGate r k st WorldGate) (sym (stack_is r k named s h.0)) h.1)
+
+    pub rest_next : AreNext r3 (Some p) (RemovalItem n ∷ [])
+    rest_next named =
+        ap (λ (e : Entry). e ∷ []) (leaves.entry named)
+        ∙ ap (λ (st : StoreView). PlainEntry (before (RemovalItem n ∷ []) (nothing_in st named)) ∷ []) (sym leaves.store)
 
   pub answer_next : (n : ℕ) (r2 r3 : RegionView) (p : Position) → TakesUpDeferred r1 r2 t.deferred number (after.Answer n) → LeavesItems r2 r3 (rest_items n) p
-      → LooksAhead t (changed_to t r3) (task.Stops stop.World (Some p))
-  answer_next n r2 r3 p takes leaves =
-      gate_next n r2 r3 p leaves takes.there.1 (λ r k named s. takes.taken r k named follows s.own.items (comes r k named s))
+      → LooksAhead t (changed_to t r3) (task.Stops stop.Answer (Some p))
+  answer_next n r2 r3 p takes leaves = record {
+    stands = λ r k named s. gate_next n r2 r3 p leaves takes.there.1 r k named s (takes.taken r k named follows s.own.items (comes r k named s));
+    there = ((leaves.position, refl, (RemovalItem n ∷ [], takes.there.0, rest_next n r2 r3 p leaves takes.there.1)), (λ e. e));
+    same = record { text = (left_same n r2 r3 p leaves takes.there.1).text; start = (left_same n r2 r3 p leaves takes.there.1).start; floor = refl; variables = refl; deferred = refl };
+  }
 
   pub removal_next : (n clause : ℕ) (r2 r3 : RegionView) (p : Position) → TakesUpDeferred r1 r2 t.deferred number (after.Removal n clause) → LeavesItems r2 r3 (rest_items n) p
-      → LooksAhead t (changed_to t r3) (task.Stops stop.World (Some p))
-  removal_next n clause r2 r3 p takes leaves =
-      gate_next n r2 r3 p leaves takes.there.1 (λ r k named s. takes.taken r k named follows s.own.items (comes r k named s))
+      → LooksAhead t (changed_to t r3) (task.Stops (stop.Removal clause) (Some p))
+  removal_next n clause r2 r3 p takes leaves = record {
+    stands = λ r k named s. gate_next n r2 r3 p leaves takes.there.1 r k named s (takes.taken r k named follows s.own.items (comes r k named s));
+    there = ((leaves.position, refl, (n, takes.there.0, rest_next n r2 r3 p leaves takes.there.1)), (λ e. e));
+    same = record { text = (left_same n r2 r3 p leaves takes.there.1).text; start = (left_same n r2 r3 p leaves takes.there.1).start; floor = refl; variables = refl; deferred = refl };
+  }
 
   pub result_next : (n : ℕ) (r2 r3 : RegionView) (p : Position) → TakesUpDeferred r1 r2 t.deferred number (after.Result n) → LeavesItems r2 r3 (rest_items n) p
       → LooksAhead t (changed_to t r3) (task.Stops (stop.Collect n) (Some p))
@@ -173,6 +182,6 @@ module _ (t : TaskView) (r1 : RegionView) (text : r1.text ≡ t.region.text) (st
           takes.there.0,
           subst (ComesToResult r k) (sym (stack_is n r2 r3 p leaves takes.there.1 r k named s h.0)) h.1,
         );
-    there = ((leaves.position, refl), (λ e. e));
+    there = ((leaves.position, refl, tt), (λ e. e));
     same = record { text = (left_same n r2 r3 p leaves takes.there.1).text; start = (left_same n r2 r3 p leaves takes.there.1).start; floor = refl; variables = refl; deferred = refl };
   }

@@ -1,7 +1,7 @@
 mod FloorLemmas
 mod LoadLemmas
 mod StartLemmas
-mod FoundLemmas
+pub mod FoundLemmas
 mod DeferredLemmas
 pub mod ChoiceEntryLemmas
 mod EngineLemmas

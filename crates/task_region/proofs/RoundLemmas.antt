@@ -1,5 +1,5 @@
 -- A goal of a task that is taken.
-use Rattle.std.proofs.Common.{◌≡◌, ◌⊎◌, inl, inr, ℕ, suc, ◌+◌, ◌<◌, ◌≤◌, Bool, true, false, List, ◌∷◌, length, Option, Some, None, IsSomeAnd, Box, refl, sym, ap, ap₂, ◌∙◌, subst, arith}
+use Rattle.std.proofs.Common.{◌≡◌, ◌⊎◌, inl, inr, ℕ, suc, ◌+◌, ◌<◌, ◌≤◌, Bool, true, false, List, [], ◌∷◌, length, Option, Some, None, IsSomeAnd, Box, refl, sym, ap, ap₂, ◌∙◌, subst, arith}
 use Rattle.std.specs.Global.{Global}
 use Rattle.std.specs.Prelude.{codes}
 use Rattle.std.proofs.lemmas.Bool.{cases_lt}
@@ -8,15 +8,17 @@ use Rattle.au_term.specs.declared.flat.FlatTerm.{FlatTerm}
 use Rattle.au_model.specs.Terms.Each.{Each}
 use Rattle.au_model.specs.Terms.Named.{NamedTerm}
 use Rattle.run_model.specs.Programs.Bodies.{call_of}
-use Rattle.run_model.specs.Goals.Outcomes.{CutToScope, Controls}
+use Rattle.run_model.specs.Goals.Outcomes.{CutToScope, Controls, AskWorld}
 use Rattle.run_model.specs.Goals.GoalOutcomes.{outcome_of}
 use Rattle.run_model.specs.Machine.Entries.{Entry, PlainEntry}
+use Rattle.run_model.specs.Machine.Items.{Item, before, resolve_item}
 use Rattle.tree_model.specs.Floors.{node_of}
 use Rattle.tree_model.specs.Nodes.{CutGate, WorldGate}
-use Rattle.cell_store.specs.StoreView.{meaning}
-use Rattle.region_split.specs.ChoicePoints.{Standing, IsMarkOf}
+use Rattle.cell_store.specs.StoreView.{StoreView, meaning, text_in}
+use Rattle.region_split.specs.ChoicePoints.{Standing, IsMarkOf, by_height}
+use Rattle.region_split.specs.Frames.{scoped_item, IsItemIn}
 use Rattle.region_split.specs.QueryEnds.{AreEndsOldest}
-use Rattle.region_split.specs.Regions.{RegionView, entries_of}
+use Rattle.region_split.specs.Regions.{RegionView, entries_of, IsPositionIn}
 use Rattle.region_split.specs.StackOperations.{PutsBefore, item_here}
 use Rattle.region_split.specs.declared.choice.ChoicePoint.{ChoicePoint}
 use Rattle.region_split.specs.declared.frame.FrameItem.{FrameItem}
@@ -28,6 +30,7 @@ use Rattle.region_control.specs.declared.control.GoalPlace.{GoalPlace}
 use Rattle.region_control.specs.declared.replies.AfterGoal.{AfterGoal}
 use Rattle.region_control.specs.declared.replies.AfterGoal.TheVariants.{At, Failed, Uncaught, AsksWorld}
 use Rattle.region_run.specs.Inferences.{item_goal, InfersItem}
+use Rattle.region_run.specs.Runs.{AsksWorldNext}
 use Rattle.region_run.proofs.RunLemmas.{item_there, item_asks}
 use Rattle.region_floor.specs.BareFloors.{goal_entries}
 use Rattle.region_floor.specs.RegionRuns.{RegionRun, StandsAfter, StandsAtGate}
@@ -37,7 +40,7 @@ use Rattle.task_region.specs.EngineSteps.{top_goal, ComesToGoal, StandsBy}
 use Rattle.task_region.specs.GoalLoads.{LeavesGoal}
 use Rattle.task_region.specs.TaskViews.{TaskView, carried, goal_stack, task_stack}
 use Rattle.task_region.specs.TaskStandings.{IsOwnRun, StandsOnRun}
-use Rattle.task_region.specs.TaskStops.{SameTask}
+use Rattle.task_region.specs.TaskStops.{SameTask, IsWorldNext}
 use Rattle.task_region.specs.TaskRounds.{TakesGoalNext}
 use Rattle.task_region.specs.declared.rounds.TaskRound.TheVariants.{GoesOn, Stops}
 use Rattle.task_region.specs.declared.running.TaskStop.TheVariants as stop
@@ -76,14 +79,34 @@ no_mark choices cut (item.Removal number) e = absurd cc
 pub told_apart : (b : Bool) → b ≡ true → b ≡ false → ⊥
 told_apart b e f = absurd (let g : true ≡ false = sym e ∙ f in cc)
 
+-- items before those of an entry
+abbrev before_entry : List (Item ℕ) → Entry → Entry
+before_entry items (PlainEntry f) = PlainEntry (before items f)
+before_entry items e = e
+
+abbrev item_by : StoreView → Standing → FrameItem → ℕ → List (Item ℕ)
+item_by st s i cut = resolve_item st.now.bound (by_height s.heights (scoped_item (text_in st) i cut)) ∷ []
+
 pub goal_left : (old new : RegionView) (i : FrameItem) (g : GoalPlace) → IsGoalThere old i g → (p : Position) → PutsBefore old new (item_here old i g.cut) g.cut g.after p → LeavesGoal old new i g p
-goal_left old new i g there p put = record {
-  position = position_more new g.cut (length new.choices) p (let e = ap (λ (x : RegionView). length x.choices) put.others in let scope = there.place.scope in omega (arith, e, scope)) put.position;
-  entry = λ named. ap PlainEntry (put.goes_on named);
-  entries = λ named. ap (λ (st : Standing). st.entries) (put.stands named);
-  text = ap (λ (x : RegionView). x.text) put.others;
+goal_left old new i g there p put =
+    let store = ap (λ (x : RegionView). x.store) put.others in
+    let choices = ap (λ (x : RegionView). length x.choices) put.others in
+    let scope = there.place.scope in
+    let after : IsPositionIn old g.after = position_more old g.cut (length old.choices) g.after scope there.place.after in
+    record {
+      position = position_more new g.cut (length new.choices) p (omega (arith, choices, scope)) put.position;
+      entry = λ named. ap PlainEntry (put.goes_on named);
+      entries = λ named. ap (λ (st : Standing). st.entries) (put.stands named);
+      there = record {
+        goal = there.goal;
+        there = subst (λ (st : StoreView). IsItemIn (text_in st) st.now.next i) (sym store) there.there;
+        place = record { scope = omega (arith, choices, scope); after = put.keeps.position g.cut g.after (omega arith) there.place.after };
+      };
+      same = λ named. ap₂ before_entry (ap₂ (λ st s. item_by st s i g.cut) store (put.stands named)) (put.keeps.same named g.after (omega arith) after);
+      text = ap (λ (x : RegionView). x.text) put.others;
   floor = ap (λ (x : RegionView). x.store.floor) put.others;
-}
+      store = store;
+    }
 
 cut_callable : (goal : Term) → IsCutGoal goal → IsCutCall goal
 cut_callable (VarTerm n) h = absurd cc
@@ -132,7 +155,7 @@ module _ (t : TaskView) (i : FrameItem) (g : GoalPlace) (there : IsGoalThere t.r
     pub limit_stops : (more : Bool) → more ≡ false → TakesGoalNext t (changed_to t new) i g more (Stops stop.Limit (Some p))
     limit_stops more e = record {
       stands = λ r k named own h. (on_run r k named own h, (top_goal (carried named t.deferred) t.region a.goal g, stack_is named ∙ a.entries (carried named t.deferred)));
-      there = ((l.position, refl), (λ u. e));
+      there = ((l.position, refl, tt), (λ u. e));
       same = left_same;
     }
 
@@ -146,7 +169,7 @@ module _ (t : TaskView) (i : FrameItem) (g : GoalPlace) (there : IsGoalThere t.r
             low,
             subst (λ st. StandsAtGate r k st (CutGate (node_of r.levels g.cut))) (sym (stack_is named ∙ a.entries (carried named t.deferred))) gate,
           );
-      there = ((l.position, refl), (λ u. absurd u));
+      there = ((l.position, refl, tt), (λ u. absurd u));
       same = left_same;
     }
 
@@ -191,20 +214,32 @@ module _ (t : TaskView) (i : FrameItem) (g : GoalPlace) (there : IsGoalThere t.r
       stands = λ r k named own h.
           let b = subst (StandsBy r k (carried named t.deferred) new (top_goal (carried named t.deferred) t.region a.goal g)) e (taken r k named own h) in
           (top_goal (carried named t.deferred) t.region a.goal g, b.0, b.1);
-      there = ((tt, refl), (λ u. absurd u));
+      there = ((tt, refl, tt), (λ u. absurd u));
       same = taken_same;
     }
 
     pub same_region : after ≡ AsksWorld → new ≡ t.region
     same_region e = (item_asks t.region new i g there there.goal (subst (InfersItem t.region new i g) e x)).1
 
-    pub world_stops : (more : Bool) → after ≡ AsksWorld → (last : RegionView) (p : Position) → LeavesGoal new last i g p → TakesGoalNext t (changed_to t last) i g more (Stops stop.World (Some p))
+    -- the world is asked where it was left
+    asks_left : (last : RegionView) (p : Position) → LeavesGoal t.region last i g p → AsksWorldNext new i g × (new ≡ t.region) → IsWorldNext last (Some p) i g
+    asks_left last p l a =
+        let asks = subst (λ (y : RegionView). AsksWorldNext y i g) a.1 a.0 in
+        let same : t.region ≡ record t.region { text = last.text; store = last.store } = ap₂ (λ x st. record t.region { text = x; store = st }) (sym l.text) (sym l.store) in
+        let moved = subst (λ (y : RegionView). (goal : Term) × (asked : Term) × (item_goal y.store i ≡ Some goal) × (outcome_of y.text.clauses goal y.store.now.next ≡ AskWorld asked)) same (asks.goal, asks.asked, asks.is, asks.asks) in
+        record {
+          asks = record { there = l.there; goal = moved.0; is = moved.2; asked = moved.1; asks = moved.3 };
+          entry = λ named. ap (λ (e : Entry). e ∷ []) (l.entry named ∙ sym (l.same named));
+        }
+
+    pub world_stops : (more : Bool) → after ≡ AsksWorld → (last : RegionView) (p : Position) → LeavesGoal new last i g p → TakesGoalNext t (changed_to t last) i g more (Stops (stop.World i g) (Some p))
     world_stops more e last p leaves =
         let l = subst (λ (y : RegionView). LeavesGoal y last i g p) (same_region e) leaves in
+        let asked = item_asks t.region new i g there there.goal (subst (InfersItem t.region new i g) e x) in
         record {
           stands = λ r k named own h.
               let gate = subst (StandsBy r k (carried named t.deferred) new (top_goal (carried named t.deferred) t.region a.goal g)) e (taken r k named own h) in
               (on_run last p l r k named own h, subst (λ st. StandsAtGate r k st WorldGate) (sym (stack_is last p l named ∙ a.entries (carried named t.deferred))) gate);
-          there = ((l.position, refl), (λ u. absurd u));
+          there = ((l.position, refl, asks_left last p l asked), (λ u. absurd u));
           same = left_same last p l;
         }

@@ -19,7 +19,7 @@ use Rattle.task_region.specs.declared.rounds.TaskRound.{TaskRound}
 use Rattle.task_region.specs.declared.rounds.TaskRound.TheVariants.{GoesOn, Stops}
 use Rattle.task_region.specs.declared.running.TaskRan.{TaskRan}
 use Rattle.task_region.specs.declared.running.TaskStop.{TaskStop}
-use Rattle.task_region.specs.declared.running.TaskStop.TheVariants.{Limit, Cut, World, Collect, Ball, Empty}
+use Rattle.task_region.specs.declared.running.TaskStop.TheVariants.{Limit, Cut, World, Removal, Answer, Collect, Ball, Empty}
 use Rattle.task_region.proofs.AheadLemmas.{changed_to}
 use Rattle.task_region.proofs.StandingRunLemmas.{own_run_of}
 
@@ -108,7 +108,9 @@ module _ (old new : TaskView) (limit : ℕ) (ran : TaskRan) (o : RunsOn old new 
   run_left : (stop : TaskStop) → LeavesNext stop new.next → StopsTask way.run.run (way.run.inferences + ran.taken) way.run.named new stop → IfSome new.next (λ p. HasOwnRun new)
   run_left Limit l h = if_any new.next (HasOwnRun new) (record { run = way.run.run; inferences = way.run.inferences + ran.taken; named = way.run.named; stands = h.0 })
   run_left (Cut node) l h = if_any new.next (HasOwnRun new) (record { run = way.run.run; inferences = way.run.inferences + ran.taken; named = way.run.named; stands = h.0 })
-  run_left World l h = if_any new.next (HasOwnRun new) (record { run = way.run.run; inferences = way.run.inferences + ran.taken; named = way.run.named; stands = h.0 })
+  run_left (World item g) l h = if_any new.next (HasOwnRun new) (record { run = way.run.run; inferences = way.run.inferences + ran.taken; named = way.run.named; stands = h.0 })
+  run_left (Removal clause) l h = if_any new.next (HasOwnRun new) (record { run = way.run.run; inferences = way.run.inferences + ran.taken; named = way.run.named; stands = h.0 })
+  run_left Answer l h = if_any new.next (HasOwnRun new) (record { run = way.run.run; inferences = way.run.inferences + ran.taken; named = way.run.named; stands = h.0 })
   run_left (Collect number) l h = if_any new.next (HasOwnRun new) (record { run = way.run.run; inferences = way.run.inferences + ran.taken; named = way.run.named; stands = h.0 })
   run_left (Ball ball) l h = subst (λ next. IfSome next (λ p. HasOwnRun new)) (sym l) tt
   run_left Empty l h = subst (λ next. IfSome next (λ p. HasOwnRun new)) (sym l) tt
@@ -126,6 +128,7 @@ module _ (old new : TaskView) (limit : ℕ) (ran : TaskRan) (o : RunsOn old new 
     within = o.within;
     all = o.all;
     next = o.there.1;
+    next_for = o.there.2;
     same = subst (λ (t : TaskView). SameTask t new) (sym e) o.same;
     idle = λ none. absurd (none_is_none before.next none (subst (λ (t : TaskView). IsSome t.next) (sym e) going));
   }
@@ -137,6 +140,7 @@ ended_task t limit e = record {
   within = omega arith;
   all = λ u. absurd u;
   next = e;
+  next_for = tt;
   same = record { text = refl; start = refl; floor = refl; variables = refl; deferred = refl };
   idle = λ e. (refl, refl, refl);
 }

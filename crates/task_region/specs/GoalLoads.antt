@@ -32,6 +32,7 @@ pub record LeavesItems (old new : RegionView) (items : List ℕ → List (Item �
   pub choices : new.choices ≡ old.choices
   pub text : new.text ≡ old.text
   pub floor : new.store.floor ≡ old.store.floor
+  pub store : new.store ≡ old.store
   pub next : new.store.now.next ≡ old.store.now.next
 
 -- what is deferred from a number on, and before that a goal as it is now
@@ -56,8 +57,11 @@ pub record LeavesGoal (old new : RegionView) (item : FrameItem) (g : GoalPlace) 
   pub position : IsPositionIn new p
   pub entry : (named : List NamedTerm) → position_entry named new p ≡ goal_entry named old item g
   pub entries : (named : List NamedTerm) → entries_of named new ≡ entries_of named old
+  pub there : IsGoalThere new item g
+  pub same : (named : List NamedTerm) → goal_entry named new item g ≡ goal_entry named old item g
   pub text : new.text ≡ old.text
   pub floor : new.store.floor ≡ old.store.floor
+  pub store : new.store ≡ old.store
 
 -- a run has come to what it defers from a number on
 pub record ComesToDeferred (r : RegionRun) (k : ℕ) (named : List NamedTerm) (here : RegionView) (number : ℕ) (after : Position) : Type 0 where

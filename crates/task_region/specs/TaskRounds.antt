@@ -9,7 +9,7 @@ use Rattle.region_control.specs.declared.control.GoalPlace.{GoalPlace}
 use Rattle.region_floor.specs.RegionRuns.{RegionRun, StandsAfter}
 use Rattle.task_region.specs.TaskViews.{TaskView, goal_stack}
 use Rattle.task_region.specs.TaskStandings.{IsOwnRun, StandsOnRun}
-use Rattle.task_region.specs.TaskStops.{IsLimit, LeavesNext, SameTask, StopsTask}
+use Rattle.task_region.specs.TaskStops.{IsLimit, IsNextFor, LeavesNext, SameTask, StopsTask}
 use Rattle.task_region.specs.declared.running.TaskRan.{TaskRan}
 use Rattle.task_region.specs.declared.ahead.TaskAhead.{TaskAhead}
 use Rattle.task_region.specs.declared.ahead.TaskAhead.TheVariants as ahead
@@ -17,9 +17,9 @@ use Rattle.task_region.specs.declared.rounds.TaskRound.{TaskRound}
 use Rattle.task_region.specs.declared.rounds.TaskRound.TheVariants.{GoesOn, Stops}
 use Rattle.task_region.specs.declared.running.TaskStop.{TaskStop}
 
--- where it stops, and whether it can go on there
+-- where it stops, whether it can go on there, and what is next
 abbrev pub IsStopThere : TaskView → TaskStop → Option Position → Type 0
-IsStopThere t stop next = IsOptionalPosition t.region (length t.region.choices) next × LeavesNext stop next
+IsStopThere t stop next = IsOptionalPosition t.region (length t.region.choices) next × LeavesNext stop next × IsNextFor stop (record t { next = next })
 
 -- a goal is next, or the run stops
 abbrev pub AheadStands : RegionRun → ℕ → List NamedTerm → TaskView → TaskAhead → Type 0

@@ -35,7 +35,7 @@ pub(crate) fn task_ahead(
     let number = match ahead {
         Ahead::Goal(item, place) => return Ok(TaskAhead::Goal(item, place)),
         Ahead::Removal(number, _) => number,
-        Ahead::Answer(position) => return Ok(TaskAhead::Stops(TaskStop::World, Some(position))),
+        Ahead::Answer(position) => return Ok(TaskAhead::Stops(TaskStop::Answer, Some(position))),
         Ahead::QueryDone => return Ok(TaskAhead::Stops(TaskStop::Empty, None)),
         Ahead::AllDone => return Ok(TaskAhead::Stops(TaskStop::Empty, None)),
     };
@@ -45,15 +45,15 @@ pub(crate) fn task_ahead(
         AfterDeferred::Goal(item, place) => Ok(TaskAhead::Goal(item, place)),
         AfterDeferred::Answer(number) => {
             let position = leave_rest(region, number)?;
-            Ok(TaskAhead::Stops(TaskStop::World, Some(position)))
+            Ok(TaskAhead::Stops(TaskStop::Answer, Some(position)))
         }
         AfterDeferred::Result(number) => {
             let position = leave_rest(region, number)?;
             Ok(TaskAhead::Stops(TaskStop::Collect(number), Some(position)))
         }
-        AfterDeferred::Removal { number, clause: _ } => {
+        AfterDeferred::Removal { number, clause } => {
             let position = leave_rest(region, number)?;
-            Ok(TaskAhead::Stops(TaskStop::World, Some(position)))
+            Ok(TaskAhead::Stops(TaskStop::Removal(clause), Some(position)))
         }
     }
 }

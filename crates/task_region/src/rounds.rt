@@ -83,7 +83,8 @@ fn take_goal(
         }
         AfterGoal::AsksWorld => {
             let position = leave_goal(region, item, place)?;
-            Ok(TaskRound::Stops(TaskStop::World, Some(position)))
+            let stop = TaskStop::World(item, place);
+            Ok(TaskRound::Stops(stop, Some(position)))
         }
     }
 }

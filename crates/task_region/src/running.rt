@@ -8,7 +8,8 @@ use crate::rounds::{TaskRound, pass_round};
 use crate::start::TaskStart;
 use au_term::{FlatTerm, NoMemory};
 use goal_kinds::GoalKinds;
-use region_split::{Position, Region};
+use region_control::GoalPlace;
+use region_split::{FrameItem, Position, Region};
 use std::alloc::Global;
 
 /// Why a task stopped.
@@ -18,9 +19,12 @@ pub enum TaskStop {
     Limit,
     /// A cut to a node of the branch is next, by the height of the node.
     Cut(u32),
-    /// A goal is next that looks at the world or changes it, or the removal of a clause; or nothing is left to do: the query
-    /// holds.
-    World,
+    /// This goal, which looks at the world or changes it, is next.
+    World(FrameItem, GoalPlace),
+    /// The removal of the clause with this number is next.
+    Removal(u64),
+    /// Nothing is left to do: the query holds.
+    Answer,
     /// A result for a findall of the branch is next, which is deferred under this number.
     Collect(u64),
     /// A goal is next that throws this ball, its variables numbered from 0, which no catch of the task takes.
