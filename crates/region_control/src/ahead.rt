@@ -52,7 +52,7 @@ pub struct CompoundAhead {
 }
 
 /// Goes on at a position, or with what the choice points have left, as far as that costs no inference.
-#[inline]
+#[inline(always)]
 pub fn look_ahead(
     region: &mut Region,
     alloc: Global,
@@ -70,7 +70,7 @@ pub fn look_ahead(
 }
 
 /// The goal that stands first at a position, if one does.
-#[inline]
+#[inline(always)]
 fn goal_at(
     region: &Region,
     start: Option<Position>,
@@ -203,6 +203,7 @@ fn past_end(region: &Region, position: Position, cut: u32) -> Position
 }
 
 /// Whether an item is a goal.
+#[inline(always)]
 fn is_goal(item: FrameItem) -> bool
     ensures { result ≡ is_goal_item item }
 {

@@ -1,2 +1,3 @@
 pub mod InferenceLemmas
 pub mod RunLemmas
+pub mod GoingOnLemmas

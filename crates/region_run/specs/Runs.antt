@@ -8,7 +8,7 @@ use Rattle.run_model.specs.Machine.Entries.{Entry, EndEntry}
 use Rattle.run_model.specs.Machine.States.{State, step, with_free_steps}
 use Rattle.run_model.specs.Programs.Clauses.{Clause}
 use Rattle.region_split.specs.Regions.{RegionView, entries_of, position_entry, IsPositionIn}
-use Rattle.region_split.specs.ClauseTrials.{entries_at}
+use Rattle.region_split.specs.ClauseTrials.{IsOptionalPosition, entries_at}
 use Rattle.region_split.specs.declared.frame.FrameItem.{FrameItem}
 use Rattle.region_split.specs.declared.frame.Position.{Position}
 use Rattle.region_control.specs.Ahead.{IsGoalThere, IsNothingLeft, goal_entry, removal_entry}
@@ -51,6 +51,11 @@ IsStop r limit ran (Removal number after) = IsPositionIn r after
 IsStop r limit ran (Answer p) = IsNothingLeft r p
 IsStop r limit ran (QueryDone ball) = Unit {0}
 IsStop r limit ran AllDone = length r.choices ≡ 0
+
+-- what goes on at a start and what the choice points stand for is what goes on there next, over what they stand for then
+pub record GoesOn (old new : RegionView) (start next : Option Position) : Type 0 where
+  pub entries : (named : List NamedTerm) → entries_at named old start ++ entries_of named old ≡ entries_at named new next ++ entries_of named new
+  pub there : IsOptionalPosition new (length new.choices) next
 
 -- the sequential machine's inferences from a start, where nothing has halted it: they change its entries alone, and count
 pub record Runs (old new : RegionView) (start : Option Position) (limit : ℕ) (ran : Ran) : Type 0 where

@@ -21,7 +21,7 @@ use std::alloc::Global;
 use std_builtins::Control;
 
 /// Takes a goal of a control construct.
-#[inline(never)]
+#[inline(always)]
 pub(crate) fn construct_taken(
     region: &mut Region,
     alloc: Global,

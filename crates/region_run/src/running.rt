@@ -1,8 +1,8 @@
 //! Runs of a region.
-ghost use Rattle.std.specs.Prelude.{◌≡◌, IfOk, IfSome, OnOk, length};
+ghost use Rattle.std.specs.Prelude.{◌≡◌, IfOk, IfSome, None, OnOk, length};
 ghost use Rattle.region_split.specs.ClauseTrials.{IsOptionalPosition};
 ghost use Rattle.region_control.specs.Ahead.{compound_goal, LiesAhead};
-ghost use Rattle.region_run.specs.Runs.{Runs, stop_of};
+ghost use Rattle.region_run.specs.Runs.{GoesOn, Runs, stop_of};
 
 use crate::inference::{calls_procedure, infer, taken_by_kind};
 use crate::kinds::kind_of;
@@ -58,7 +58,8 @@ pub fn run(
     let mut next = start;
     let mut taken = 0;
     while taken < limit {
-        let (item, place, after) = match compound_first(region, next)? {
+        let start = go_on(region, next)?;
+        let (item, place, after) = match compound_first(region, start)? {
             Some(compound) => {
                 let goal = BindingCell::Compound(compound.at, compound.base);
                 let form = compound_form(region.store(), compound.at, compound.base);
@@ -72,7 +73,7 @@ pub fn run(
                 let after = taken_by_kind(region, alloc, kind, goal, form, compound.place)?;
                 (FrameItem::Goal(goal), compound.place, after)
             }
-            None => match look_ahead(region, alloc, next)? {
+            None => match look_ahead(region, alloc, start)? {
                 Ahead::Goal(item, place) => {
                     (item, place, infer(region, alloc, kinds, item, place)?)
                 }
@@ -98,6 +99,35 @@ pub fn run(
     }
     let ahead = look_ahead(region, alloc, next)?;
     Ok(stopped(taken, ahead))
+}
+
+/// Where nothing goes on at a position, tries the clause that the newest choice point has next, if it stands for clauses, and
+/// gives the position at which its body goes on if its head unifies. That is a free step.
+#[inline(always)]
+fn go_on(region: &mut Region, start: Option<Position>) -> Result<Option<Position>, NoMemory>
+    requires { IsOptionalPosition region.old (length region.old.choices) start }
+    ensures goes { IfOk result (GoesOn region.old region.new start) }
+    ensures text { OnOk result (region.new.text ≡ region.old.text) }
+    ensures floor { OnOk result (region.new.store.floor ≡ region.old.store.floor) }
+{
+    match start {
+        Some(_) => Ok(start),
+        None => try_next(region),
+    }
+}
+
+/// The same where nothing goes on.
+#[inline(always)]
+fn try_next(region: &mut Region) -> Result<Option<Position>, NoMemory>
+    ensures goes { IfOk result (GoesOn region.old region.new None) }
+    ensures text { OnOk result (region.new.text ≡ region.old.text) }
+    ensures floor { OnOk result (region.new.store.floor ≡ region.old.store.floor) }
+{
+    let count = region.scope()?;
+    match region.next_clause() {
+        Some(trial) => region.try_clause(trial, count - 1),
+        None => Ok(None),
+    }
 }
 
 /// The goal that stands first at a position, if it is a compound.

@@ -14,7 +14,7 @@ use cell_store::Store;
 use clause_index::{Cursor, HeadKey, NumberKey};
 
 /// The clauses that a goal may match, by its name, its number of arguments and the key of the first one.
-#[inline]
+#[inline(always)]
 pub(crate) fn candidates(text: &Text, store: &Store, goal: BindingCell, by: HeadKey) -> Cursor
     requires program { store.now.program ≡ text.now.code }
     requires numbers { IsHeadKeyOf (text_in store.now).names (meaning store.now goal) by }
@@ -65,7 +65,7 @@ pub(crate) fn next_match(
 }
 
 /// The same, where the clause that is the only one left need not be told apart: it is tried.
-#[inline]
+#[inline(always)]
 pub(crate) fn first_match(
     text: &Text,
     store: &Store,

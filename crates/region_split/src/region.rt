@@ -188,7 +188,7 @@ impl Region {
     }
 
     /// Makes a frame of a body of the text, with a number added to its variables, and gives the frame's number.
-    #[inline(never)]
+    #[inline(always)]
     pub(crate) fn push_body(
         &mut self,
         base: u32,
@@ -223,7 +223,7 @@ impl Region {
     }
 
     /// Puts a choice point on top, whose alternatives go on at a position.
-    #[inline]
+    #[inline(always)]
     pub fn push_choice(
         &mut self,
         alternatives: Alternatives,
@@ -249,7 +249,7 @@ impl Region {
     }
 
     /// Cuts down to so many choice points, the oldest. Nothing is undone.
-    #[inline]
+    #[inline(always)]
     pub fn cut_to(&mut self, count: usize)
         requires { count ≤ length self.old.choices }
         ensures { CutsTo self.old self.new count }
@@ -287,7 +287,7 @@ impl Region {
 
     /// Takes the clause that is next off the newest choice point, and undoes all that was bound and made since that came. Where
     /// no further clause may match, the choice point is dropped.
-    #[inline]
+    #[inline(always)]
     pub fn next_clause(&mut self) -> Option<Trial>
         ensures { MatchOption result (HasNoClauseOnTop self.old × (self.new ≡ self.old)) (TakesClause self.old self.new) }
     {

@@ -52,7 +52,7 @@ fn value_of_one(store: &Store, name: u32, at: u32, base: u32) -> Option<i64>
 }
 
 /// The value of a function of two integers, where it has one.
-#[inline]
+#[inline(always)]
 fn value_of_two(store: &Store, name: u32, at: u32, base: u32) -> Option<i64>
     requires functor { HasFunctor (text_in store.now) store.now.now.next at base name 2 }
     requires short { at < 2 ^ 32 - 1 }
