@@ -21,6 +21,7 @@ use Rattle.region_floor.proofs.RegionRunLemmas.{entries_by_heights}
 use Rattle.region_floor.specs.Deferred.{all_deferred}
 use Rattle.region_floor.specs.NextNumbers.{NumbersFrom}
 use Rattle.region_floor.specs.RegionRuns.{StandsAfter, by_heights}
+use Rattle.cell_store.specs.StoreView.{Moment}
 use Rattle.region_split.specs.Regions.{RegionView}
 use Rattle.region_split.specs.Texts.{TextView}
 use Rattle.task_region.specs.DeferredItems.{IsDeferredOver}
@@ -39,7 +40,7 @@ use Rattle.branch_reading.specs.SettledWays.{branch_items, items_on, is_item_set
 use Rattle.branch_loading.specs.MadeInTurn.{IsMadeBy, CanMake, Makes}
 use Rattle.branch_loading.specs.PlacesUp.{AreAllUp, body_at, branching_at, segments_above, segments_at, IsQueryPart}
 use Rattle.branch_loading.specs.ScopeHeights.{items_over}
-use Rattle.branch_loading.specs.TaskLoads.{is_task_at, CanBeLoaded, HasLoadableBranch, run_on_branch, LoadsTask}
+use Rattle.branch_loading.specs.TaskLoads.{is_task_at, CanBeLoaded, HasLoadableBranch, run_on_branch, LoadsTask, IsBoundOnBranch}
 use Rattle.branch_loading.proofs.MadeLemmas.{nothing_made}
 use Rattle.branch_loading.proofs.HeightLemmas.{length-places, items_same, height-within}
 use Rattle.branch_loading.proofs.PlaceUpLemmas.{places_are_levels}
@@ -251,9 +252,17 @@ module _ (nodes : NodesView) (a : Place) (places : List Place) (own : ℕ) (r : 
       stands = stands_there text.clauses;
     }
 
+    bound_there : IsBoundOnBranch way t.region.store.floor
+    unfolding left
+    bound_there = record {
+      bound = subst (λ (m : Moment). SameValues (bound_by (segments_on way)) (Some m.bound)) (sym starts.start) unified;
+      next = ap (λ (m : Moment). m.next) starts.start ∙ sym next_left;
+    }
+
   pub loads : (text : TextView) → r.text ≡ text → LoadsTask nodes a text t
   loads text same = record {
     stands = λ job read v up was way at stands on. stands_on job read v up was way at stands on text same;
+    start = λ job read v up was way at stands on. bound_there job read v up was way at stands on;
     going = starts.going;
     text_is = starts.text ∙ same;
   }

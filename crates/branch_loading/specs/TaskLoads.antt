@@ -1,9 +1,11 @@
 -- The region of a task that is loaded from the tree.
-use Rattle.std.specs.Prelude.{◌≡◌, ◌==◌, ℕ, Bool, true, not, List, [], ◌∷◌, IsSome}
+use Rattle.std.specs.Prelude.{◌≡◌, ◌==◌, ℕ, Bool, true, not, List, [], ◌∷◌, Some, IsSome}
+use Rattle.au_model.specs.Terms.MostGeneral.{SameValues}
 use Rattle.run_model.specs.Machine.Entries.{PlainEntry}
 use Rattle.run_model.specs.Machine.Items.{Continuation}
 use Rattle.run_model.specs.Programs.Clauses.{Clause}
 use Rattle.run_model.specs.Programs.Jobs.{Job}
+use Rattle.cell_store.specs.StoreView.{Moment}
 use Rattle.region_floor.specs.Deferred.{all_deferred}
 use Rattle.region_floor.specs.RegionRuns.{RegionRun, by_heights}
 use Rattle.region_split.specs.Texts.{TextView}
@@ -16,6 +18,7 @@ use Rattle.tree_model.specs.NumberedTrees.{IsNumberedStatus}
 use Rattle.tree_nodes.specs.Bodies.{BodyKind, ChoiceBody, ConditionBody, CatchBody, FindallBody, QueryBody, Branching, Reading}
 use Rattle.tree_nodes.specs.Rows.{Rows, row_of_node}
 use Rattle.tree_nodes.specs.TreeTables.{NodesView, IsTableOf, IsWayTo}
+use Rattle.branch_reading.specs.BranchSegments.{segments_on, bound_by, next_number}
 use Rattle.branch_reading.specs.Readings.{continuation_on, named_of, query_on, reading}
 use Rattle.branch_reading.specs.SettledWays.{is_way_settled}
 use Rattle.branch_loading.specs.PlacesUp.{AreAllUp, branching_at}
@@ -57,8 +60,20 @@ StandsAtStart nodes a clauses t =
     → IsTableOf nodes read (plug (v ∷ up) was) → IsWayTo nodes.rows (v ∷ up) way
     → StandsOnRun (run_on_branch clauses (v ∷ up) job way) 0 (named_of (query_on job way)) t
 
+-- what was bound at a moment is what is bound on a branch, with its next variable number
+pub record IsBoundOnBranch (way : Branching) (m : Moment) : Type 0 where
+  pub bound : SameValues (bound_by (segments_on way)) (Some m.bound)
+  pub next : m.next ≡ next_number (segments_on way)
+
+-- of each such tree, the floor of the task's store is what is bound on the branch of its alternative
+abbrev pub StartsOnBranch : NodesView → Place → TaskView → Type 0
+StartsOnBranch nodes a t =
+    (job : Job) (read : Reading) (v : Level) (up : List Level) (was : Status) (way : Branching) → place_at v ≡ a
+    → IsTableOf nodes read (plug (v ∷ up) was) → IsWayTo nodes.rows (v ∷ up) way → IsBoundOnBranch way t.region.store.floor
+
 pub record LoadsTask (nodes : NodesView) (a : Place) (text : TextView) (t : TaskView) : Type 0 where
   pub stands : StandsAtStart nodes a text.clauses t
+  pub start : StartsOnBranch nodes a t
   pub going : IsSome t.next
   pub text_is : t.region.text ≡ text
 

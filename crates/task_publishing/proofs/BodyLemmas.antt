@@ -12,7 +12,7 @@ use Rattle.clause_compile.specs.declared.event.Branch.{Branch}
 use Rattle.clause_compile.specs.declared.item.Item.{Item as BranchItem}
 use Rattle.cell_store.specs.StoreView.{Moment}
 use Rattle.region_split.specs.ClauseTrials.{entries_at}
-use Rattle.region_split.specs.QueryEnds.{AreEndsOldest}
+use Rattle.region_split.specs.QueryEnds.{AreEndsAtFloor, AreEndsOldest}
 use Rattle.region_split.specs.Regions.{RegionView, entries_of}
 use Rattle.region_split.specs.declared.frame.Position.{Position}
 use Rattle.task_region.specs.TaskViews.{TaskView, carried, position_stack, task_stack}
@@ -33,7 +33,8 @@ use Rattle.region_capture.specs.CapturedRegions.{CapturesRegion, IsCaptureFloor,
 use Rattle.region_capture.specs.declared.captured.Captured.{Captured}
 use Rattle.region_capture.specs.declared.captured.CapturedKind.TheVariants.{Choice}
 use Rattle.task_publishing.specs.OwnEntries.{IsOverEnds, placement_of, StandsForOwn, AreTakenOff, OwnEntriesAreTaken, OwnEntriesAreOverFloor}
-use Rattle.task_publishing.specs.OwnBodies.{HasOwn, HasSomeOwn, IsTakenOffTask, IsBranchAt, CanBePublished, IsBoundOnBranch, MeanOwn, MeanFromStart, MeanTask, AreNumbersUp}
+use Rattle.branch_loading.specs.TaskLoads.{IsBoundOnBranch}
+use Rattle.task_publishing.specs.OwnBodies.{HasOwn, HasSomeOwn, IsTakenOffTask, IsBranchAt, CanBePublished, MeanOwn, MeanFromStart, MeanTask, AreNumbersUp}
 use Rattle.task_publishing.proofs.NodesDownLemmas.{numbers, nodes_down}
 
 -- the way to a branch has its goals and its next number
@@ -71,9 +72,13 @@ stands_there t p levels named items own has next ends marks =
 
 -- as it is once the task was taken apart
 module _ (t : TaskView) (r : RegionView) (floor : ℕ) (p : Position) (law : OwnEntriesAreOverFloor) (h : HasSomeOwn t) (same : r ≡ t.region) (floor_is : floor ≡ t.floor)
-    (next : t.next ≡ Some p) (ends : AreEndsOldest r.choices) (marks : length r.store.marks ≡ length r.choices) where
+    (next : t.next ≡ Some p) (ends : AreEndsOldest r.choices) (floors : AreEndsAtFloor r.store.floor r.choices r.store.marks)
+    (marks : length r.store.marks ≡ length r.choices) where
   ends_there : AreEndsOldest t.region.choices
   ends_there = subst (λ (x : RegionView). AreEndsOldest x.choices) same ends
+
+  floors_there : AreEndsAtFloor t.region.store.floor t.region.choices t.region.store.marks
+  floors_there = subst (λ (x : RegionView). AreEndsAtFloor x.store.floor x.choices x.store.marks) same floors
 
   marks_there : length t.region.store.marks ≡ length t.region.choices
   marks_there = subst (λ (x : RegionView). length x.store.marks ≡ length x.choices) same marks
@@ -95,6 +100,7 @@ module _ (t : TaskView) (r : RegionView) (floor : ℕ) (p : Position) (law : Own
     captures = subst (λ n. CapturesRegion t.region new n p c) floor_is (subst (λ (x : RegionView). CapturesRegion x new floor p c) same k);
     floor = own_floor;
     ends = ends_there;
+    at_floor = floors_there;
     marks = marks_there;
   }
 
@@ -172,7 +178,9 @@ module _ (nodes : NodesView) (a : Place) (t : TaskView) (c : Captured) (bodies :
         }
 
     pub means_from_start : MeanFromStart job (length nodes.rows) levels way t bodies own
-    means_from_start = record { start = start.0; marked = start.1; newest = off.floor.newest; mean = mean_own }
+    means_from_start bound =
+        let same : start.0 ≡ t.region.store.floor = off.at_floor (t.floor - 1) start.0 off.floor.newest start.1 in
+        subst (λ (m : Moment). MeanOwn job (length nodes.rows) levels way m.bound bodies own) same (mean_own (subst (IsBoundOnBranch way) (sym same) bound))
 
   pub bodies_mean : MeanTask nodes a t bodies
   bodies_mean job read v above was way own at table on can has = means_from_start job read v above was way own at table on can has

@@ -23,13 +23,13 @@ use Rattle.branch_reading.specs.BranchSegments.{segments_on, next_number}
 use Rattle.branch_reading.specs.NumberedReadings.{NumberedTreesAreSettled}
 use Rattle.branch_reading.specs.Readings.{named_of, query_on, reading}
 use Rattle.branch_reading.specs.SettledWays.{items_on}
-use Rattle.branch_loading.specs.TaskLoads.{run_on_branch}
+use Rattle.branch_loading.specs.TaskLoads.{run_on_branch, IsBoundOnBranch, StartsOnBranch}
 use Rattle.branch_loading.proofs.LoadLemmas.{settled_bindings}
 use Rattle.branch_shapes.specs.ExtendedWays.{SettledSegmentsBind}
 use Rattle.branch_shapes.specs.FloorItems.{ScopedItemsNameLevels}
 use Rattle.branch_shapes.specs.MeantRuns.{MeanRun, placement_at, MeantRunsFit, RunIsMeant, MeantRunsRead}
-use Rattle.task_publishing.specs.OwnBodies.{HasOwn, HasSomeOwn, CanBePublished, IsBoundOnBranch, MeanOwn, MeanFromStart, MeanTask}
-use Rattle.task_publishing.specs.TaskRuns.{HasStopped, StopsThere, StartsBound}
+use Rattle.task_publishing.specs.OwnBodies.{HasOwn, HasSomeOwn, CanBePublished, MeanOwn, MeanFromStart, MeanTask}
+use Rattle.task_publishing.specs.TaskRuns.{HasStopped, StopsThere}
 use Rattle.task_publishing.proofs.StoppedLemmas.{ComesToRest, come_to_rest}
 use Rattle.task_publishing.proofs.SpotLemmas.{at, table, way, on, reads, cell_there, can_be_published}
 
@@ -74,7 +74,7 @@ module _ (job : Job) (nodes : NodesView) (t : TreeState) (w : ℕ) (a : Place) (
       has = has;
     }
 
-    module _ (bodies : List Body) (mean : MeanTask nodes a task bodies) (start : StartsBound nodes a task) (number : length nodes.rows ≡ t.next)
+    module _ (bodies : List Body) (mean : MeanTask nodes a task bodies) (start : StartsOnBranch nodes a task) (number : length nodes.rows ≡ t.next)
         (legal : IsLegalTree t) (numbered : NumberedTreesAreSettled) (scoped : ScopedItemsNameLevels) (bind : SettledSegmentsBind) where
       can : CanBePublished levels here
       can = can_be_published job nodes t w a placed s taken legal numbered scoped k _ some run_there
@@ -84,13 +84,13 @@ module _ (job : Job) (nodes : NodesView) (t : TreeState) (w : ℕ) (a : Place) (
           mean job (reading job) s.level s.above (Pending s.hold s.entry) here rest.own (at job nodes t w a placed s taken)
           (table job nodes t w a placed s taken) (on job nodes t w a placed s taken) can has
 
-      bound : IsBoundOnBranch here from.start
+      bound : IsBoundOnBranch here task.region.store.floor
       bound =
-          start (reading job) s.level s.above (Pending s.hold s.entry) here from.start (at job nodes t w a placed s taken)
-          (table job nodes t w a placed s taken) (on job nodes t w a placed s taken) from.marked
+          start job (reading job) s.level s.above (Pending s.hold s.entry) here (at job nodes t w a placed s taken)
+          (table job nodes t w a placed s taken) (on job nodes t w a placed s taken)
 
-      meant : MeanOwn job (length nodes.rows) levels here from.start.bound bodies rest.own
-      meant = from.mean bound
+      meant : MeanOwn job (length nodes.rows) levels here task.region.store.floor.bound bodies rest.own
+      meant = from bound
 
       run_is_meant : RunIsMeant job nodes.rows bodies k t s
       run_is_meant = record {
@@ -99,18 +99,18 @@ module _ (job : Job) (nodes : NodesView) (t : TreeState) (w : ℕ) (a : Place) (
         run = run_there ∙ ap (λ (es : List Entry). Some es) meant.entries;
         way = here;
         path = on job nodes t w a placed s taken;
-        before = from.start.bound;
-        binds = bind (segments_on here) from.start.bound (settled_bindings here can.settled) bound.bound;
-        means = subst (λ n. MeanRun (placement_at job here n levels meant.groups) (next_number (segments_on here)) from.start.bound bodies meant.current)
+        before = task.region.store.floor.bound;
+        binds = bind (segments_on here) task.region.store.floor.bound (settled_bindings here can.settled) bound.bound;
+        means = subst (λ n. MeanRun (placement_at job here n levels meant.groups) (next_number (segments_on here)) task.region.store.floor.bound bodies meant.current)
             number meant.means;
       }
 
       whole_there : MeantRunsFit → AreWhole bodies
       whole_there fit =
-          (fit (placement_at job here (length nodes.rows) levels meant.groups) (next_number (segments_on here)) from.start.bound bodies meant.current
+          (fit (placement_at job here (length nodes.rows) levels meant.groups) (next_number (segments_on here)) task.region.store.floor.bound bodies meant.current
           meant.means).2
 
-  pub run_reads : (bodies : List Body) → MeanTask nodes a task bodies → StartsBound nodes a task → length nodes.rows ≡ t.next → IsLegalTree t
+  pub run_reads : (bodies : List Body) → MeanTask nodes a task bodies → StartsOnBranch nodes a task → length nodes.rows ≡ t.next → IsLegalTree t
       → NumberedTreesAreSettled → ScopedItemsNameLevels → SettledSegmentsBind → MeantRunsRead → RunReadsAs nodes.rows bodies w a k (reading job) t
   run_reads bodies mean start number legal numbered scoped bind law =
       law job nodes.rows bodies w a k t (λ s taken. run_is_meant s taken bodies mean start number legal numbered scoped bind)
@@ -119,7 +119,7 @@ module _ (job : Job) (nodes : NodesView) (t : TreeState) (w : ℕ) (a : Place) (
   spot None out = absurd (cc out)
   spot (Some s) out = (s, refl)
 
-  pub bodies_whole : (bodies : List Body) → MeanTask nodes a task bodies → StartsBound nodes a task → length nodes.rows ≡ t.next → IsLegalTree t
+  pub bodies_whole : (bodies : List Body) → MeanTask nodes a task bodies → StartsOnBranch nodes a task → length nodes.rows ≡ t.next → IsLegalTree t
       → NumberedTreesAreSettled → ScopedItemsNameLevels → SettledSegmentsBind → MeantRunsFit → is_some (taken_at w a t) ≡ true → AreWhole bodies
   bodies_whole bodies mean start number legal numbered scoped bind fit out =
       let s = spot (taken_at w a t) out in whole_there s.0 s.1 bodies mean start number legal numbered scoped bind fit

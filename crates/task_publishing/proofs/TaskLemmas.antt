@@ -19,9 +19,9 @@ use Rattle.tree_nodes.proofs.PlaceLemmas.{taken_out}
 use Rattle.tree_core.specs.Brands.{no_job}
 use Rattle.branch_reading.specs.Readings.{named_of, query_on}
 use Rattle.branch_reading.specs.SettledWays.{items_on}
-use Rattle.branch_loading.specs.TaskLoads.{run_on_branch}
+use Rattle.branch_loading.specs.TaskLoads.{run_on_branch, IsBoundOnBranch}
 use Rattle.task_publishing.specs.OwnBodies.{HasSomeOwn}
-use Rattle.task_publishing.specs.TaskRuns.{StopsThere, LoadedTasksStop, StoppedTasksRunOn, StoppedTasksHaveOwn}
+use Rattle.task_publishing.specs.TaskRuns.{StopsThere, LoadedTasksStop, StoppedTasksRunOn, StoppedTasksHaveOwn, TasksStayOnBranches}
 use Rattle.task_publishing.proofs.StoppedLemmas.{ComesToRest, come_to_rest, no_next}
 
 pub loaded_stop : LoadedTasksStop
@@ -80,3 +80,7 @@ stopped_have_own rests tops nodes a clauses k t st there some stops = by_cell (c
     by_cell : (o : Option (ℕ × AlternativeCell)) → cell_at nodes.rows a ≡ o → IsSome o → HasSomeOwn t
     by_cell None e s = absurd (cc s)
     by_cell (Some c) e s = own_at rests tops nodes a clauses k t st (located nodes st.read st.root a c st.stands e) some stops
+
+pub stay_on_branches : TasksStayOnBranches
+stay_on_branches nodes a old new limit ran starts r job read v up was way at table on =
+    subst (IsBoundOnBranch way) (sym r.same.start) (starts job read v up was way at table on)

@@ -1,15 +1,13 @@
 -- Bodies of nodes for the own entries that a task's region has left.
-use Rattle.std.specs.Prelude.{◌≡◌, ℕ, ◌+◌, ◌-◌, ◌≤◌, true, List, ◌∷◌, length, map, reverse, slice_get, Some, IsSomeAnd}
+use Rattle.std.specs.Prelude.{◌≡◌, ℕ, ◌+◌, ◌≤◌, true, List, ◌∷◌, length, map, reverse, slice_get, Some}
 use Rattle.au_model.specs.Terms.Each.{Each}
-use Rattle.au_model.specs.Terms.MostGeneral.{SameValues}
 use Rattle.au_model.specs.Terms.Named.{NamedTerm}
 use Rattle.au_model.specs.Terms.Substitutions.{Substitution}
 use Rattle.run_model.specs.Machine.Entries.{Entry}
 use Rattle.run_model.specs.Programs.Jobs.{Job}
 use Rattle.clause_compile.specs.declared.event.Branch.{Branch}
 use Rattle.clause_compile.specs.declared.item.Item.{Item as BranchItem}
-use Rattle.cell_store.specs.StoreView.{Moment}
-use Rattle.region_split.specs.QueryEnds.{IsEnd, AreEndsOldest}
+use Rattle.region_split.specs.QueryEnds.{AreEndsAtFloor, AreEndsOldest}
 use Rattle.region_split.specs.Regions.{RegionView}
 use Rattle.region_split.specs.declared.frame.Position.{Position}
 use Rattle.region_capture.specs.CapturedRegions.{CapturesRegion}
@@ -19,10 +17,11 @@ use Rattle.tree_model.specs.Nodes.{Status}
 use Rattle.tree_nodes.specs.Bodies.{Body, Branching, Reading}
 use Rattle.tree_nodes.specs.Rows.{StoredNode, Rows, row_of_node}
 use Rattle.tree_nodes.specs.TreeTables.{NodesView, IsTableOf, IsWayTo}
-use Rattle.branch_reading.specs.BranchSegments.{segments_on, bound_by, next_number}
+use Rattle.branch_reading.specs.BranchSegments.{segments_on, next_number}
 use Rattle.branch_reading.specs.Readings.{items_meant, named_of, query_on}
 use Rattle.branch_reading.specs.SettledWays.{items_on, is_way_settled}
 use Rattle.branch_loading.specs.PlacesUp.{AreAllUp}
+use Rattle.branch_loading.specs.TaskLoads.{IsBoundOnBranch}
 use Rattle.branch_shapes.specs.FloorItems.{NamesLevels, items_over_floor}
 use Rattle.branch_shapes.specs.Groups.{Groups, stacked}
 use Rattle.branch_shapes.specs.MeantRuns.{MeanRun, placement_at}
@@ -55,6 +54,7 @@ pub record IsTakenOffTask (t : TaskView) (c : Captured) : Type 0 where
   pub captures : CapturesRegion t.region left t.floor position c
   pub floor : IsOverEnds t.floor t.region
   pub ends : AreEndsOldest t.region.choices
+  pub at_floor : AreEndsAtFloor t.region.store.floor t.region.choices t.region.store.marks
   pub marks : length t.region.store.marks ≡ length t.region.choices
 
 -- the branch of an alternative is settled, and its items name nodes of it, as in the tree of every legal history
@@ -71,11 +71,6 @@ pub record IsBranchAt (rows : Rows) (a : Place) (goals : List BranchItem) (base 
   pub goals_are : goals ≡ branch.goals
   pub base_is : base ≡ branch.segment.base + branch.segment.vars
 
--- what was bound at a moment is what is bound on a branch, with its next variable number
-pub record IsBoundOnBranch (way : Branching) (start : Moment) : Type 0 where
-  pub bound : SameValues (bound_by (segments_on way)) (Some start.bound)
-  pub next : start.next ≡ next_number (segments_on way)
-
 -- bodies mean own entries below a branch on which this is bound, as nodes with numbers from one on
 pub record MeanOwn (job : Job) (number : ℕ) (levels : List Level) (way : Branching) (before : Substitution) (bodies : List Body) (own : List Entry) : Type 0 where
   pub current : Entry
@@ -83,12 +78,10 @@ pub record MeanOwn (job : Job) (number : ℕ) (levels : List Level) (way : Branc
   pub entries : map (joined_entry (deferred_over levels (named_of (query_on job way)) (items_on way))) own ≡ current ∷ stacked groups
   pub means : MeanRun (placement_at job way number levels groups) (next_number (segments_on way)) before bodies current
 
--- they do where what was bound when the newest choice point of a task's floor came is what is bound on the branch
-pub record MeanFromStart (job : Job) (number : ℕ) (levels : List Level) (way : Branching) (t : TaskView) (bodies : List Body) (own : List Entry) : Type 0 where
-  pub start : Moment
-  pub marked : slice_get t.region.store.marks (t.floor - 1) ≡ Some start
-  pub newest : IsSomeAnd (slice_get t.region.choices (t.floor - 1)) (λ c. IsEnd c.alternatives)
-  pub mean : IsBoundOnBranch way start → MeanOwn job number levels way start.bound bodies own
+-- they do where the floor of the task's store is what is bound on the branch
+abbrev pub MeanFromStart : Job → ℕ → List Level → Branching → TaskView → List Body → List Entry → Type 0
+MeanFromStart job number levels way t bodies own =
+    IsBoundOnBranch way t.region.store.floor → MeanOwn job number levels way t.region.store.floor.bound bodies own
 
 -- of each tree for which the nodes stand, bodies mean the own entries for which a task stands, whatever the job is
 abbrev pub MeanTask : NodesView → Place → TaskView → List Body → Type 0

@@ -2,7 +2,6 @@
 use Rattle.std.specs.Prelude.{◌≡◌, ℕ, ◌+◌, ◌-◌, List, ◌∷◌, slice_get, Some, IsSome}
 use Rattle.run_model.specs.Programs.Clauses.{Clause}
 use Rattle.run_model.specs.Programs.Jobs.{Job}
-use Rattle.cell_store.specs.StoreView.{Moment}
 use Rattle.region_split.specs.Texts.{TextView}
 use Rattle.tree_model.specs.Events.{Nodes}
 use Rattle.tree_model.specs.Levels.{Level, Place, plug, place_at}
@@ -12,12 +11,12 @@ use Rattle.tree_nodes.specs.Rows.{cell_at}
 use Rattle.tree_nodes.specs.TreeTables.{NodesView, IsTableOf, IsWayTo, Stand}
 use Rattle.tree_core.specs.Histories.{History, while_going}
 use Rattle.branch_reading.specs.Readings.{named_of, query_on}
-use Rattle.branch_loading.specs.TaskLoads.{run_on_branch, LoadsTask}
+use Rattle.branch_loading.specs.TaskLoads.{run_on_branch, LoadsTask, StartsOnBranch}
 use Rattle.task_region.specs.TaskViews.{TaskView}
 use Rattle.task_region.specs.TaskStops.{LeavesNext, StopsTask, RunsTask}
 use Rattle.task_region.specs.declared.running.TaskRan.{TaskRan}
 use Rattle.task_region.specs.declared.running.TaskStop.{TaskStop}
-use Rattle.task_publishing.specs.OwnBodies.{HasSomeOwn, IsBoundOnBranch}
+use Rattle.task_publishing.specs.OwnBodies.{HasSomeOwn}
 
 -- after so many inferences a task has stopped on the run of a branch
 pub record HasStopped (clauses : List Clause) (levels : List Level) (job : Job) (way : Branching) (k : ℕ) (t : TaskView) : Type 0 where
@@ -30,13 +29,6 @@ abbrev pub StopsThere : NodesView → Place → List Clause → ℕ → TaskView
 StopsThere nodes a clauses k t =
     (job : Job) (read : Reading) (v : Level) (up : List Level) (was : Status) (way : Branching) → place_at v ≡ a
     → IsTableOf nodes read (plug (v ∷ up) was) → IsWayTo nodes.rows (v ∷ up) way → HasStopped clauses (v ∷ up) job way k t
-
--- and what the task's store had bound when the newest choice point of its floor came is what is bound on the branch
-abbrev pub StartsBound : NodesView → Place → TaskView → Type 0
-StartsBound nodes a t =
-    (read : Reading) (v : Level) (up : List Level) (was : Status) (way : Branching) (start : Moment) → place_at v ≡ a
-    → IsTableOf nodes read (plug (v ∷ up) was) → IsWayTo nodes.rows (v ∷ up) way → slice_get t.region.store.marks (t.floor - 1) ≡ Some start
-    → IsBoundOnBranch way start
 
 -- an alternative became nodes after so many inferences, where the tree has neither ended nor been stopped
 pub record Publishes (old new : History) (w : ℕ) (a : Place) (k : ℕ) : Type 0 where
@@ -51,6 +43,11 @@ LoadedTasksStop = (nodes : NodesView) (a : Place) (text : TextView) (old new : T
 abbrev pub StoppedTasksRunOn : Type 0
 StoppedTasksRunOn = (nodes : NodesView) (a : Place) (clauses : List Clause) (k : ℕ) (old new : TaskView) (limit : ℕ) (ran : TaskRan) → IsSome old.next
     → StopsThere nodes a clauses k old → RunsTask old new limit ran → StopsThere nodes a clauses (k + ran.taken) new
+
+-- a task that is run stays over what is bound on its branch
+abbrev pub TasksStayOnBranches : Type 0
+TasksStayOnBranches = (nodes : NodesView) (a : Place) (old new : TaskView) (limit : ℕ) (ran : TaskRan) → StartsOnBranch nodes a old → RunsTask old new limit ran
+    → StartsOnBranch nodes a new
 
 -- where it can go on, it stands for own entries
 abbrev pub StoppedTasksHaveOwn : Type 0

@@ -1,6 +1,6 @@
 //! Laws of what a task has left: each function does nothing, and its contract is the law.
 ghost use Rattle.task_publishing.specs.OwnEntries.{OwnEntriesAreOverFloor, OwnEntriesAreTaken};
-ghost use Rattle.task_publishing.specs.TaskRuns.{LoadedTasksStop, StoppedTasksHaveOwn, StoppedTasksRunOn};
+ghost use Rattle.task_publishing.specs.TaskRuns.{LoadedTasksStop, StoppedTasksHaveOwn, StoppedTasksRunOn, TasksStayOnBranches};
 
 use branch_shapes::laws::floor_items_stay;
 use region_floor::laws::steps::{deferred_items_are_left, regions_run_privately, tops_are_own};
@@ -18,11 +18,13 @@ pub fn own_entries_are_taken()
     floor_items_stay();
 }
 
-/// A task that was loaded and run, and run on, stops on the run of its alternative; where it can go on, it stands for own entries.
+/// A task that was loaded and run, and run on, stops on the run of its alternative; where it can go on, it stands for own entries, and it
+/// stays over what is bound on its branch.
 pub fn tasks_stop_on_runs()
     ensures loaded { LoadedTasksStop }
     ensures on { StoppedTasksRunOn }
     ensures own { StoppedTasksHaveOwn }
+    ensures stay { TasksStayOnBranches }
 {
     regions_run_privately();
     tops_are_own();

@@ -3,7 +3,8 @@ ghost use Rattle.std.specs.Prelude.{◌≡◌, ◌≤◌, true, is_some, IsSome,
 ghost use Rattle.tree_model.specs.EventViews.{place_view};
 ghost use Rattle.tree_model.specs.Legality.{taken_at};
 ghost use Rattle.tree_core.specs.Histories.{state_of};
-ghost use Rattle.task_publishing.specs.TaskRuns.{Publishes, StartsBound, StopsThere};
+ghost use Rattle.task_publishing.specs.TaskRuns.{Publishes, StopsThere};
+ghost use Rattle.branch_loading.specs.TaskLoads.{StartsOnBranch};
 
 use crate::bodies::bodies_of_task;
 use au_term::NoMemory;
@@ -29,7 +30,7 @@ pub fn publish_task<J: JobBrand>(
     requires out { is_some (taken_at worker (place_view at) (state_of tree.old.history)) ≡ true }
     requires going { IsSome task.next }
     requires stops { StopsThere tree.old.nodes (place_view at) tree.old.history.job.clauses inferences task }
-    requires start { StartsBound tree.old.nodes (place_view at) task }
+    requires start { StartsOnBranch tree.old.nodes (place_view at) task }
     ensures publishes { OnOk result (Publishes tree.old.history tree.new.history worker (place_view at) inferences) }
     ensures err { OnErr result (tree.new.history ≡ tree.old.history) }
 {
