@@ -359,3 +359,37 @@ fn bindings_since_a_mark(rt: HostRuntime) -> Result<(), Fail> {
     let mut store = store(rt.alloc())?;
     bind_two(&rt, rt.alloc(), &mut store)
 }
+
+/// The state of a store that has no mark is its floor.
+fn floor(rt: &impl Abort, store: &mut Store) {
+    assert!(rt; store.marks() == 0);
+    store.set_floor();
+}
+
+fn bind_over_the_floor(rt: &impl Abort, alloc: Global, store: &mut Store) -> Result<(), Fail> {
+    let (under, over) = ([(false, 3), (false, 3)], [(false, 0), (false, 0)]);
+    expect(
+        rt,
+        unifies(rt, alloc, store, &under, &[(false, 2), (false, 2)])?,
+        true,
+    );
+    floor(rt, store);
+    expect(
+        rt,
+        unifies(rt, alloc, store, &over, &[(true, 1), (true, 1)])?,
+        true,
+    );
+    let since = store.made_since_floor()?;
+    expect(rt, since.len(), 1);
+    match since.first() {
+        Some((variable, BindingCell::Compound(_, _))) => expect(rt, *variable, 0),
+        _ => Err("a compound")?,
+    }
+    Ok(())
+}
+
+#[test]
+fn bindings_since_the_floor(rt: HostRuntime) -> Result<(), Fail> {
+    let mut store = store(rt.alloc())?;
+    bind_over_the_floor(&rt, rt.alloc(), &mut store)
+}
