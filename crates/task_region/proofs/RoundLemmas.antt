@@ -104,7 +104,7 @@ goal_left old new i g there p put =
       };
       same = λ named. ap₂ before_entry (ap₂ (λ st s. item_by st s i g.cut) store (put.stands named)) (put.keeps.same named g.after (omega arith) after);
       text = ap (λ (x : RegionView). x.text) put.others;
-  floor = ap (λ (x : RegionView). x.store.floor) put.others;
+      floor = ap (λ (x : RegionView). x.store.floor) put.others;
       store = store;
     }
 
