@@ -10,7 +10,7 @@ use Rattle.region_split.specs.Texts.{TextView}
 use Rattle.region_split.specs.declared.choice.Trial.{Trial}
 use Rattle.region_split.specs.declared.frame.Position.{Position}
 use Rattle.region_split.proofs.CallLemmas.{position_over}
-use Rattle.region_run.specs.Runs.{GoesOn}
+use Rattle.region_run.specs.Runs.{GoesOnFrom}
 use Rattle.region_run.proofs.RunLemmas.{IsRunning}
 
 some_same : (x y : Clause) → Some x ≡ Some y → x ≡ y
@@ -24,7 +24,7 @@ module _ (old r new : RegionView) (t : Trial) (cut : ℕ) (took : TakesClause ol
   same_choices : new.choices ≡ r.choices
   same_choices = ap (λ (x : RegionView). x.choices) kept.others
 
-  pub tried_next : GoesOn old new None reached
+  pub tried_next : GoesOnFrom old new None reached
   tried_next = record {
     entries = λ named.
         took.entries named
@@ -35,7 +35,7 @@ module _ (old r new : RegionView) (t : Trial) (cut : ℕ) (took : TakesClause ol
   }
 
 -- what runs still runs where it goes on
-pub went_on : (old r r1 : RegionView) (start next reached : Option Position) (taken : ℕ) → IsRunning old r start next taken → GoesOn r r1 next reached → r1.text ≡ r.text → r1.store.floor ≡ r.store.floor → IsRunning old r1 start reached taken
+pub went_on : (old r r1 : RegionView) (start next reached : Option Position) (taken : ℕ) → IsRunning old r start next taken → GoesOnFrom r r1 next reached → r1.text ≡ r.text → r1.store.floor ≡ r.store.floor → IsRunning old r1 start reached taken
 went_on old r r1 start next reached taken w g text floor = record {
   run = λ named st e k. w.run named st e k ∙ ap (λ es. (let x : State = record st { entries = es; inferences = st.inferences + taken } in with_free_steps x)) (g.entries named);
   there = g.there;

@@ -53,7 +53,7 @@ IsStop r limit ran (QueryDone ball) = Unit {0}
 IsStop r limit ran AllDone = length r.choices ≡ 0
 
 -- what goes on at a start and what the choice points stand for is what goes on there next, over what they stand for then
-pub record GoesOn (old new : RegionView) (start next : Option Position) : Type 0 where
+pub record GoesOnFrom (old new : RegionView) (start next : Option Position) : Type 0 where
   pub entries : (named : List NamedTerm) → entries_at named old start ++ entries_of named old ≡ entries_at named new next ++ entries_of named new
   pub there : IsOptionalPosition new (length new.choices) next
 

@@ -2,7 +2,7 @@
 ghost use Rattle.std.specs.Prelude.{◌≡◌, IfOk, IfSome, None, OnOk, length};
 ghost use Rattle.region_split.specs.ClauseTrials.{IsOptionalPosition};
 ghost use Rattle.region_control.specs.Ahead.{compound_goal, LiesAhead};
-ghost use Rattle.region_run.specs.Runs.{GoesOn, Runs, stop_of};
+ghost use Rattle.region_run.specs.Runs.{GoesOnFrom, Runs, stop_of};
 
 use crate::inference::{calls_procedure, infer, taken_by_kind};
 use crate::kinds::kind_of;
@@ -106,7 +106,7 @@ pub fn run(
 #[inline(always)]
 fn go_on(region: &mut Region, start: Option<Position>) -> Result<Option<Position>, NoMemory>
     requires { IsOptionalPosition region.old (length region.old.choices) start }
-    ensures goes { IfOk result (GoesOn region.old region.new start) }
+    ensures goes { IfOk result (GoesOnFrom region.old region.new start) }
     ensures text { OnOk result (region.new.text ≡ region.old.text) }
     ensures floor { OnOk result (region.new.store.floor ≡ region.old.store.floor) }
 {
@@ -119,7 +119,7 @@ fn go_on(region: &mut Region, start: Option<Position>) -> Result<Option<Position
 /// The same where nothing goes on.
 #[inline(always)]
 fn try_next(region: &mut Region) -> Result<Option<Position>, NoMemory>
-    ensures goes { IfOk result (GoesOn region.old region.new None) }
+    ensures goes { IfOk result (GoesOnFrom region.old region.new None) }
     ensures text { OnOk result (region.new.text ≡ region.old.text) }
     ensures floor { OnOk result (region.new.store.floor ≡ region.old.store.floor) }
 {

@@ -21,7 +21,7 @@ use Rattle.task_region.specs.DeferredItems.{item_of, IsDeferredOver}
 use Rattle.task_region.specs.GoalLoads.{LeavesItems, rest_items, ComesToDeferred, TakesUpDeferred}
 use Rattle.task_region.specs.TaskViews.{TaskView, carried, position_stack, deferred_stack, goal_stack}
 use Rattle.task_region.specs.TaskStandings.{StandsOnRun, IsUnderWay}
-use Rattle.task_region.specs.TaskStops.{AreNext, SameTask}
+use Rattle.task_region.specs.TaskStops.{AreDeferredNext, SameTask}
 use Rattle.task_region.specs.TaskRounds.{LooksAhead}
 use Rattle.task_region.specs.declared.ahead.TaskAhead.TheVariants as task
 use Rattle.task_region.specs.declared.deferred.DeferredItem.{DeferredItem}
@@ -152,7 +152,7 @@ module _ (t : TaskView) (r1 : RegionView) (text : r1.text ≡ t.region.text) (st
         → StandsOnRun r k named left × StandsAtGate r k (position_stack named t.deferred r3 p) WorldGate
     gate_next r k named s h = (stands_left r k named s h.0, subst (λ st. StandsAtGate r k st WorldGate) (sym (stack_is r k named s h.0)) h.1)
 
-    pub rest_next : AreNext r3 (Some p) (RemovalItem n ∷ [])
+    pub rest_next : AreDeferredNext r3 (Some p) (RemovalItem n ∷ [])
     rest_next named =
         ap (λ (e : Entry). e ∷ []) (leaves.entry named)
         ∙ ap (λ (st : StoreView). PlainEntry (before (RemovalItem n ∷ []) (nothing_in st named)) ∷ []) (sym leaves.store)

@@ -36,8 +36,8 @@ pub record IsWorldNext (r : RegionView) (next : Option Position) (item : FrameIt
   pub entry : (named : List NamedTerm) → entries_at named r next ≡ goal_entry named r item g ∷ []
 
 -- these items are all that is next
-abbrev pub AreNext : RegionView → Option Position → List (Item ℕ) → Type 0
-AreNext r next items = (named : List NamedTerm) → entries_at named r next ≡ PlainEntry (before items (nothing_here named r)) ∷ []
+abbrev pub AreDeferredNext : RegionView → Option Position → List (Item ℕ) → Type 0
+AreDeferredNext r next items = (named : List NamedTerm) → entries_at named r next ≡ PlainEntry (before items (nothing_here named r)) ∷ []
 
 -- they stand for nothing that is deferred
 abbrev pub StandForNothing : List (Item ℕ) → List (Item ℕ) → Type 0
@@ -50,8 +50,8 @@ abbrev pub IsNextFor : TaskStop → TaskView → Type 0
 IsNextFor Limit t = Unit {0}
 IsNextFor (Cut node) t = Unit {0}
 IsNextFor (World item g) t = IsWorldNext t.region t.next item g
-IsNextFor (Removal clause) t = (number : ℕ) × (slice_get t.deferred number ≡ Some (RemovalItem clause)) × AreNext t.region t.next (RemovalItem number ∷ [])
-IsNextFor Answer t = (items : List (Item ℕ)) × StandForNothing t.deferred items × AreNext t.region t.next items
+IsNextFor (Removal clause) t = (number : ℕ) × (slice_get t.deferred number ≡ Some (RemovalItem clause)) × AreDeferredNext t.region t.next (RemovalItem number ∷ [])
+IsNextFor Answer t = (items : List (Item ℕ)) × StandForNothing t.deferred items × AreDeferredNext t.region t.next items
 IsNextFor (Collect number) t = Unit {0}
 IsNextFor (Ball ball) t = Unit {0}
 IsNextFor Empty t = Unit {0}
