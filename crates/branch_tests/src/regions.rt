@@ -51,6 +51,7 @@ pub(crate) fn region(alloc: Global) -> Result<Region, Fail> {
 
 fn push_query_end(rt: &impl Abort, region: &mut Region) -> Result<(), NoMemory> {
     assert!(rt; region.height() == 0);
+    region.set_floor();
     let after = region.nothing_left();
     region.push_choice(Alternatives::QueryEnd, after)
 }

@@ -16,6 +16,7 @@ fn capture_binding(alloc: Global, region: &mut Region) -> Result<Captured, NoMem
     requires none { length region.old.choices ≡ 0 }
     requires variable { 0 < region.old.store.now.next }
 {
+    region.set_floor();
     let end = region.nothing_left();
     region.push_choice(Alternatives::QueryEnd, end)?;
     let nothing = region.nothing_left();

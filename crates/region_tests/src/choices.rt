@@ -46,6 +46,7 @@ fn push(region: &mut Region, alternatives: Alternatives) -> Result<(), NoMemory>
 
 fn push_query_end(rt: &impl Abort, region: &mut Region) -> Result<(), NoMemory> {
     assert!(rt; region.height() == 0);
+    region.set_floor();
     push(region, Alternatives::QueryEnd)
 }
 

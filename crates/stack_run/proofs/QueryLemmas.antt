@@ -15,7 +15,7 @@ use Rattle.run_model.specs.Programs.Jobs.{Query, goals_bound, own_terms, query_b
 use Rattle.clause_compile.specs.CompiledClauses.{goal_items}
 use Rattle.clause_compile.specs.declared.item.Scope.TheVariants.{Local}
 use Rattle.binding_array.specs.declared.cell.BindingCell.{BindingCell}
-use Rattle.cell_store.specs.StoreView.{StoreView, meaning, IsValueIn, new_store, with_numbers, with_mark}
+use Rattle.cell_store.specs.StoreView.{StoreView, meaning, IsValueIn, new_store, over_floor, with_numbers, with_mark}
 use Rattle.region_split.specs.ChoicePoints.{Standing, alternative_entries, by_height, continuation_at, height_of_cut}
 use Rattle.region_split.specs.Regions.{RegionView, region_setting, entries_of, heights_of, items_here, IsPositionIn, IsPositionOver}
 use Rattle.region_split.specs.StackOperations.{new_region, AddsChoice, PutsGoals}

@@ -1,7 +1,20 @@
-use Rattle.std.proofs.Common.{◌≤◌, [], ◌∷◌, length, length-append, ap, arith}
+use Rattle.std.proofs.Common.{◌≤◌, ◌∙◌, [], ◌∷◌, length, length-append, ap, sym, subst, arith}
+use Rattle.std.proofs.lemmas.List.{nil_from_length}
+use Rattle.region_split.specs.QueryEnds.{MayComeOver}
+use Rattle.region_split.specs.declared.choice.Alternatives.TheVariants.{QueryEnd}
 use Rattle.region_split.specs.Regions.{RegionView}
 use Rattle.region_split.proofs.ItemLemmas.{position_more}
 use Rattle.region_tests.proofs.captures.capture_binding.Goals as goal
+
+pub set_floor-requires : goal.set_floor-requires
+set_floor-requires c = nil_from_length c.args.region.now.choices c.requires.none
+
+pub push_choice-requires-clause-values : goal.push_choice-requires-clause-values
+push_choice-requires-clause-values c = ap (λ (r : RegionView). r.store.now) c.set_floor.ensures ∙ sym (ap (λ (r : RegionView). r.store.floor) c.set_floor.ensures)
+
+pub push_choice-requires-clause-over : goal.push_choice-requires-clause-over
+push_choice-requires-clause-over c =
+    subst (λ cs. MayComeOver cs QueryEnd) (sym (ap (λ (r : RegionView). r.choices) c.set_floor.ensures ∙ nil_from_length c.args.region.now.choices c.requires.none)) tt
 
 pub capture-requires-clause-position : goal.capture-requires-clause-position
 capture-requires-clause-position c =
