@@ -76,6 +76,7 @@ fn put(
 fn region(alloc: Global, variables: u32) -> Result<Region, Fail> {
     let mut region = Region::new(alloc, text(alloc)?)?;
     region.fresh(variables)?;
+    region.set_floor();
     let nothing = region.nothing_left();
     region.push_choice(Alternatives::QueryEnd, nothing)?;
     Ok(region)
