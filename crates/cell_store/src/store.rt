@@ -9,7 +9,6 @@ ghost use Rattle.clause_compile.specs.AtomNumbers.{name_at};
 ghost use Rattle.clause_compile.specs.Places.{IsPlaceOf, meaning_in};
 ghost use Rattle.cell_store.specs.Arguments.{HasFunctor, IsArgument, IsArgumentValue, argument_at, code_place};
 ghost use Rattle.cell_store.specs.ArgumentSteps.{IsCompoundPlace, IsFreshPlace, IsArgumentReached};
-ghost use Rattle.cell_store.specs.Undoing.{AreNested, freed, mark_now};
 ghost use Rattle.cell_store.specs.FreshVariables.{AreYoung, IsOlder};
 ghost use Rattle.cell_store.specs.ListGoals.{list_goal};
 ghost use Rattle.cell_store.specs.MadeBindings.{AreMadeSince};
@@ -19,7 +18,7 @@ ghost use Rattle.cell_store.specs.StoreView.{Moment, IsValidStore, IsValueIn, Is
 use crate::arguments::{Arguments, Equations};
 use crate::heap::Heap;
 use crate::made::bindings_after;
-use crate::mark::Mark;
+use crate::mark::{Mark, free_after, mark_of, protected};
 use crate::resolved::resolved;
 use crate::unify::unify;
 use au_term::{Atom, FlatTerm, NoMemory, Shared};
@@ -461,44 +460,5 @@ impl Store {
         free_after(at.trail, &mut self.trail, &mut self.cells);
         self.cells.cut_to(at.variables);
         self.heap.cut_to(at.made);
-    }
-}
-
-/// A mark of how a store is.
-#[inline(always)]
-fn mark_of(heap: &Heap, cells: &BindingArray, trail: &[u32]) -> Mark
-    ensures { result ≡ mark_now (record { heap = heap.now; cells = cells.now; trail = trail.now; marks = [] }) }
-{
-    Mark {
-        trail: trail.len(),
-        variables: cells.len(),
-        made: heap.made(),
-    }
-}
-
-/// How many variables there were at the newest mark, or at the floor where there is none.
-#[inline(always)]
-fn protected(floor: Mark, marks: &[Mark]) -> usize
-    requires { AreNested (floor ∷ marks.now) }
-    ensures { Each (λ m. m.variables ≤ result) (floor ∷ marks.now) }
-{
-    match marks.last() {
-        Some(mark) => mark.variables,
-        None => floor.variables,
-    }
-}
-
-/// Frees the variables of the trail after the first ones, the last first, and takes them from it.
-#[inline]
-fn free_after(kept: usize, trail: &mut Vec<u32>, cells: &mut BindingArray)
-    requires { Each (λ v. v < length cells.old) trail.old.items }
-    ensures trail { trail.new.items ≡ take kept trail.old.items }
-    ensures cells { cells.new ≡ freed (drop kept trail.old.items) cells.old }
-{
-    while trail.len() > kept {
-        match trail.pop() {
-            Some(variable) => cells.free(variable),
-            None => unreachable!(),
-        }
     }
 }

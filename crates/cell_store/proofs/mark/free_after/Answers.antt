@@ -1,6 +1,6 @@
 use Rattle.std.proofs.Common.{◌≡◌, ◌<◌, ◌++◌, ◌∷◌, [], ◌∙◌, length, arith}
 use Rattle.cell_store.proofs.UndoingLemmas.{popped}
-use Rattle.cell_store.proofs.store.free_after.Goals as goal
+use Rattle.cell_store.proofs.mark.free_after.Goals as goal
 
 pub loop-trail-preserved : goal.loop-trail-preserved
 loop-trail-preserved c =

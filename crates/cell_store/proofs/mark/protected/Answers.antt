@@ -2,7 +2,7 @@ use Rattle.std.proofs.Common.{◌≡◌, ◌-◌, ◌∷◌, [], suc, length, sl
 use Rattle.au_model.specs.Terms.Each.{Each}
 use Rattle.cell_store.specs.declared.mark.Mark.{Mark}
 use Rattle.cell_store.proofs.UndoingLemmas.{newest}
-use Rattle.cell_store.proofs.store.protected.Goals as goal
+use Rattle.cell_store.proofs.mark.protected.Goals as goal
 
 pub returns-in-Some : goal.returns-in-Some
 returns-in-Some c =

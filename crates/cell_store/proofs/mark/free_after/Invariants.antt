@@ -1,7 +1,7 @@
 use Rattle.std.proofs.Common.{◌≡◌, ◌<◌, length, take, drop}
 use Rattle.au_model.specs.Terms.Each.{Each}
 use Rattle.cell_store.specs.Undoing.{freed}
-use Rattle.cell_store.proofs.store.free_after.Given as goal
+use Rattle.cell_store.proofs.mark.free_after.Given as goal
 
 abbrev pub invariant-loop-trail : goal.invariant-loop-trail
 invariant-loop-trail l = record {
