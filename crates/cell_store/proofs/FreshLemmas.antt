@@ -12,16 +12,16 @@ use Rattle.au_model.proofs.UnifierRuleLemmas.{Says, rule_says}
 use Rattle.binding_array.specs.declared.cell.BindingCell.{BindingCell}
 use Rattle.binding_array.specs.declared.cell.BindingCell.TheVariants.{Free, Var, Int, Atom, Compound}
 use Rattle.binding_array.specs.Represented.{IsFalling}
-use Rattle.cell_store.specs.FreshVariables.{AreYoung, IsOlder, is_fresh, fresh_after, StaysOlder}
+use Rattle.cell_store.specs.FreshVariables.{AreYoung, IsOlder, AreOlder, is_fresh, fresh_after, StaysOlder}
 use Rattle.cell_store.specs.Values.{IsNoVariable}
 use Rattle.cell_store.specs.StoreView.{StoreView, substitution, meaning, text_in, with_substitution, BindsFurther, IsUnbound, IsValueIn}
-use Rattle.cell_store.specs.UnificationSteps.{equations_in, pending_equations, FollowsRule, after_same, after_binding, after_opening, IsBoundOr}
+use Rattle.cell_store.specs.UnificationSteps.{equations_in, equations_left, pending_equations, FollowsRule, after_same, after_binding, after_opening, IsBoundOr}
 use Rattle.cell_store.specs.declared.arguments.Equations.{Equations as ArgumentEquations}
 use Rattle.cell_store.specs.declared.unify.Outcome.{Outcome}
 use Rattle.cell_store.specs.declared.unify.Outcome.TheVariants.{Clash as ClashOutcome, Solved, Inside}
 use Rattle.cell_store.proofs.OccurrenceLemmas.{kept_below, occurs_below}
 use Rattle.cell_store.proofs.RuleLemmas.{right_bound, rule_right}
-use Rattle.cell_store.proofs.UnificationLemmas.{left_in, resolved_binding, resolved_append}
+use Rattle.cell_store.proofs.UnificationLemmas.{resolved_binding, resolved_append}
 
 -- a fresh variable is not in an older term
 pub fresh_apart : (x : ℕ) (fresh : Option ℕ) (t : Term) → is_fresh x fresh ≡ true → IsOlder fresh t → occurs x t ≡ false
@@ -91,15 +91,11 @@ pub first_older_than : (o : Option ℕ) (base : ℕ) (t : Term) → IfSome o (λ
 first_older_than None base t e l = tt
 first_older_than (Some n) base t e l = omega (arith, e, l)
 
--- the equations that are left, with the older side on the left
-abbrev pub AllOlder : Option ℕ → Equations → Type 0
-AllOlder from eqs = Each (λ e. IsOlder from e.0) eqs
-
 weaker : (from to : Option ℕ) (t : Term) → (to ≡ from) ⊎ (to ≡ None) → IsOlder from t → IsOlder to t
 weaker from to t (inl e) o = subst (λ f. IsOlder f t) (sym e) o
 weaker from to t (inr e) o = subst (λ f. IsOlder f t) (sym e) tt
 
-all_stay : (old new : StoreView) (from to : Option ℕ) (eqs : Equations) → StaysOlder old new from to → AllOlder from (resolved_equations (substitution old) eqs) → AllOlder to (resolved_equations (substitution new) eqs)
+all_stay : (old new : StoreView) (from to : Option ℕ) (eqs : Equations) → StaysOlder old new from to → AreOlder from (resolved_equations (substitution old) eqs) → AreOlder to (resolved_equations (substitution new) eqs)
 all_stay old new from to [] s o = tt
 all_stay old new from to (e ∷ eqs) s o = (s.kept e.0 (weaker from to (resolve (substitution old) e.0) s.still o.0), all_stay old new from to eqs s o.1)
 
@@ -119,26 +115,26 @@ arguments_older : (from : Option ℕ) (name : List ℕ) (ts : Terms) → IsOlder
 arguments_older None name ts o = none_fresh ts
 arguments_older (Some base) name ts o = all_below base ts o
 
-inside : (from : Option ℕ) (ts us : Terms) → IsOlderAll from ts → AllOlder from (pairs ts us)
+inside : (from : Option ℕ) (ts us : Terms) → IsOlderAll from ts → AreOlder from (pairs ts us)
 inside from end us o = tt
 inside from (more t ts) end o = tt
 inside from (more t ts) (more u us) o = (o.0, inside from ts us o.1)
 
 -- what is opened is older too
-pub opened_older : (from : Option ℕ) (a b : Term) (es : Equations) → rule a b ≡ Opened es → IsOlder from a → AllOlder from es
+pub opened_older : (from : Option ℕ) (a b : Term) (es : Equations) → rule a b ≡ Opened es → IsOlder from a → AreOlder from es
 opened_older from a b es r o =
     let says = subst (Says a b) r (rule_says a b) in
-    subst (AllOlder from) (sym says.es_are) (inside from says.left says.right (arguments_older from says.name says.left (subst (IsOlder from) says.a_is o)))
+    subst (AreOlder from) (sym says.es_are) (inside from says.left says.right (arguments_older from says.name says.left (subst (IsOlder from) says.a_is o)))
 
-pub older_follows : (from to : Option ℕ) (st new : StoreView) (a b : Term) (es opened : List ArgumentEquations) → AllOlder from ((a, b) ∷ left_in st es) → new ≡ with_substitution (substitution new) st → FollowsRule st new a b opened → StaysOlder st new from to → AllOlder to (left_in new (opened ++ es))
-older_follows from to st new a b es opened o others f s = subst (λ c. AllOlder to (resolved_equations (substitution new) (pending_equations c (opened ++ es)))) (sym (ap text_in others)) (all_stay st new from to (pending_equations (text_in st) (opened ++ es)) s (by_rule f))
+pub older_follows : (from to : Option ℕ) (st new : StoreView) (a b : Term) (es opened : List ArgumentEquations) → AreOlder from ((a, b) ∷ equations_left st es) → new ≡ with_substitution (substitution new) st → FollowsRule st new a b opened → StaysOlder st new from to → AreOlder to (equations_left new (opened ++ es))
+older_follows from to st new a b es opened o others f s = subst (λ c. AreOlder to (resolved_equations (substitution new) (pending_equations c (opened ++ es)))) (sym (ap text_in others)) (all_stay st new from to (pending_equations (text_in st) (opened ++ es)) s (by_rule f))
   where
-    by_rule : FollowsRule st new a b opened → AllOlder from (left_in st (opened ++ es))
-    by_rule (after_same e n g) = subst (λ gs. AllOlder from (left_in st (gs ++ es))) (sym g) o.1
-    by_rule (after_binding x t k h g) = subst (λ gs. AllOlder from (left_in st (gs ++ es))) (sym g) o.1
+    by_rule : FollowsRule st new a b opened → AreOlder from (equations_left st (opened ++ es))
+    by_rule (after_same e n g) = subst (λ gs. AreOlder from (equations_left st (gs ++ es))) (sym g) o.1
+    by_rule (after_binding x t k h g) = subst (λ gs. AreOlder from (equations_left st (gs ++ es))) (sym g) o.1
     by_rule (after_opening e k t n g) =
-        subst (λ gs. AllOlder from (left_in st (gs ++ es))) (sym g)
-        (subst (AllOlder from) (sym (resolved_append (substitution st) (equations_in (text_in st) e) (pending_equations (text_in st) es))) (each-append (λ q. IsOlder from q.0) (resolved_equations (substitution st) (equations_in (text_in st) e)) (left_in st es) (opened_older from a b _ k o.0) o.1))
+        subst (λ gs. AreOlder from (equations_left st (gs ++ es))) (sym g)
+        (subst (AreOlder from) (sym (resolved_append (substitution st) (equations_in (text_in st) e) (pending_equations (text_in st) es))) (each-append (λ q. IsOlder from q.0) (resolved_equations (substitution st) (equations_in (text_in st) e)) (equations_left st es) (opened_older from a b _ k o.0) o.1))
 
 pub smaller_older : (from : Option ℕ) (n m : ℕ) → n < m → IsOlder from (VarTerm m) → IsOlder from (VarTerm n)
 smaller_older None n m lt o = tt

@@ -18,7 +18,7 @@ use Rattle.au_term.proofs.LogicLemmas.{number_same, and-both}
 use Rattle.binding_array.specs.declared.cell.BindingCell.{BindingCell}
 use Rattle.cell_store.specs.Arguments.{argument_meaning}
 use Rattle.cell_store.specs.StoreView.{StoreView, substitution, meaning, text_in, with_substitution, IsComposition, BindsFurther}
-use Rattle.cell_store.specs.UnificationSteps.{equations_in, pending_equations, AllEquations, FollowsRule, after_same, after_binding, after_opening, HasRestEquations, KeepsRestEquations, AreUnified}
+use Rattle.cell_store.specs.UnificationSteps.{equations_in, pending_equations, AllEquations, equations_left, FollowsRule, after_same, after_binding, after_opening, HasRestEquations, KeepsRestEquations, AreUnified}
 use Rattle.cell_store.specs.declared.arguments.Equations.{Equations as ArgumentEquations}
 
 -- the first binding holds first, and the rest of what it leaves
@@ -145,24 +145,21 @@ replaced s now x t (e ∷ eqs) c =
 pub resolved_append : (s : Substitution) (es fs : Equations) → resolved_equations s (es ++ fs) ≡ resolved_equations s es ++ resolved_equations s fs
 resolved_append s es fs = map-append (λ e. (resolve s e.0, resolve s e.1)) es fs
 
-abbrev pub left_in : StoreView → List ArgumentEquations → Equations
-left_in st es = resolved_equations (substitution st) (pending_equations (text_in st) es)
-
 -- how a rule goes on
 pub record GoesOn (eqs : Equations) (first old new : StoreView) (work_before : ℕ) (es : List ArgumentEquations) : Type 0 where
-  pub unifying : Unifying eqs (substitution first) (substitution new) (left_in new es)
+  pub unifying : Unifying eqs (substitution first) (substitution new) (equations_left new es)
   pub there : AllEquations (text_in new) new.now.next es
   pub others : new ≡ with_substitution (substitution new) first
-  pub less : left_work eqs (left_in new es) < work_before
+  pub less : left_work eqs (equations_left new es) < work_before
 
-module _ (eqs : Equations) (first st : StoreView) (a b : Term) (es : List ArgumentEquations) (u : Unifying eqs (substitution first) (substitution st) ((a, b) ∷ left_in st es)) (there : AllEquations (text_in st) st.now.next es) (others : st ≡ with_substitution (substitution st) first) where
+module _ (eqs : Equations) (first st : StoreView) (a b : Term) (es : List ArgumentEquations) (u : Unifying eqs (substitution first) (substitution st) ((a, b) ∷ equations_left st es)) (there : AllEquations (text_in st) st.now.next es) (others : st ≡ with_substitution (substitution st) first) where
   abbrev rest : Equations
-  rest = left_in st es
+  rest = equations_left st es
 
   abbrev before : ℕ
   before = left_work eqs ((a, b) ∷ rest)
 
-  unchanged : (left : Equations) (fs : List ArgumentEquations) → Unifying eqs (substitution first) (substitution st) left × (left_work eqs left < before) → left ≡ left_in st fs → AllEquations (text_in st) st.now.next fs → GoesOn eqs first st st before fs
+  unchanged : (left : Equations) (fs : List ArgumentEquations) → Unifying eqs (substitution first) (substitution st) left × (left_work eqs left < before) → left ≡ equations_left st fs → AllEquations (text_in st) st.now.next fs → GoesOn eqs first st st before fs
   unchanged left fs g e t = record {
     unifying = subst (Unifying eqs (substitution first) (substitution st)) e g.0;
     there = t;
@@ -175,7 +172,7 @@ module _ (eqs : Equations) (first st : StoreView) (a b : Term) (es : List Argume
       let g = binding_goes eqs (substitution first) (substitution st) a b rest u x t (substitution new) k f.bound in
       let text : text_in new ≡ text_in st = ap text_in f.others in
       let next : new.now.next ≡ st.now.next = ap (λ (v : StoreView). v.now.next) f.others in
-      let left : replace x t rest ≡ left_in new es =
+      let left : replace x t rest ≡ equations_left new es =
       sym (replaced (substitution st) (substitution new) x t (pending_equations (text_in st) es) f.bound) ∙ ap (λ c. resolved_equations (substitution new) (pending_equations c es)) (sym text) in
       record {
         unifying = subst (Unifying eqs (substitution first) (substitution new)) left g.0;
@@ -194,33 +191,62 @@ module _ (eqs : Equations) (first st : StoreView) (a b : Term) (es : List Argume
       (subst (λ gs. GoesOn eqs first st st before (gs ++ es)) (sym f)
       (unchanged (inner ++ rest) (e ∷ es) (opening_goes eqs (substitution first) (substitution st) a b rest u inner k) (sym (resolved_append (substitution st) (equations_in (text_in st) e) (pending_equations (text_in st) es))) (t, there)))
 
--- the first equation
-pub begun : (a b : Term) (s : Substitution) (left : Equations) → left ≡ (a, b) ∷ [] → Unifying ((a, b) ∷ []) s s left
-begun a b s left e = record {
+-- all equations
+pub begun : (eqs : Equations) (s : Substitution) (left : Equations) → left ≡ eqs → Unifying eqs s s left
+begun eqs s left e = record {
   made = [];
   bound = λ n. sym (resolve-nothing (value_of s n));
   result = ap unifier e;
-  below = subst (AllBelow (equations_bound ((a, b) ∷ []))) (sym e) (all_below ((a, b) ∷ []));
+  below = subst (AllBelow (equations_bound eqs)) (sym e) (all_below eqs);
 }
 
--- none is left
-pub record Ended (a b : Term) (first now : StoreView) : Type 0 where
+-- what is found with what the rest gives is bound after the first bindings
+abbrev composed_onto : List (ℕ × Term) → Substitution → Substitution
+composed_onto [] f = f
+composed_onto (b ∷ bs) f = bound b.0 b.1 (composed_onto bs f)
+
+completed-onto : (bs : List (ℕ × Term)) (f : Substitution) → completed bs (Some f) ≡ Some (composed_onto bs f)
+completed-onto [] f = refl
+completed-onto (b ∷ bs) f = ap (option_map (bound b.0 b.1)) (completed-onto bs f)
+
+onto_composed : (bs : List (ℕ × Term)) (f : Substitution) (u : Term) → resolve (composed_onto bs f) u ≡ resolve f (resolve (composed bs) u)
+onto_composed [] f u = ap (resolve f) (sym (resolve-nothing u))
+onto_composed (b ∷ bs) f u =
+    bound_first (composed_onto bs f) b.0 b.1 u ∙ (onto_composed bs f (apply (only b.0 b.1) u) ∙ ap (resolve f) (sym (bound_first (composed bs) b.0 b.1 u)))
+
+-- the unifier of equations was bound
+pub record Ended (eqs : Equations) (first now : StoreView) : Type 0 where
   pub further : Substitution
-  pub unified : unifier ((a, b) ∷ []) ≡ Some further
+  pub unified : unifier eqs ≡ Some further
   pub binds : BindsFurther first now further
 
-pub ended : (a b : Term) (first now : StoreView) (left : Equations) → Unifying ((a, b) ∷ []) (substitution first) (substitution now) left → left ≡ [] → now ≡ with_substitution (substitution now) first → Ended a b first now
-ended a b first now left u e others = record {
+-- where that of the equations that are left is
+pub ended : (eqs : Equations) (first now new : StoreView) (left : Equations) (f : Substitution) → Unifying eqs (substitution first) (substitution now) left
+    → now ≡ with_substitution (substitution now) first → unifier left ≡ Some f → BindsFurther now new f → Ended eqs first new
+ended eqs first now new left f u others e b = record {
+  further = composed_onto u.made f;
+  unified = sym u.result ∙ (ap (completed u.made) e ∙ completed-onto u.made f);
+  binds = record {
+    bound = λ n. b.bound n ∙ (ap (resolve f) (u.bound n) ∙ sym (onto_composed u.made f (value_of (substitution first) n)));
+    others = b.others ∙ ap (λ v. with_substitution (substitution new) v) others;
+  };
+}
+
+-- and where none is left
+pub none_left : (eqs : Equations) (first now : StoreView) (left : Equations) → Unifying eqs (substitution first) (substitution now) left → left ≡ []
+    → now ≡ with_substitution (substitution now) first → Ended eqs first now
+none_left eqs first now left u e others = record {
   further = composed u.made;
   unified = sym u.result ∙ (ap (λ k. completed u.made (unifier k)) e ∙ (ap (completed u.made) unifier_goes.none_left ∙ completed-some u.made));
   binds = record { bound = u.bound; others = others };
 }
 
-pub unified : (a b : BindingCell) (first now : StoreView) → Ended (meaning first a) (meaning first b) first now → AreUnified a b first now
-unified a b first now h = record { further = h.further; unified = h.unified; binds = h.binds }
+-- they have none where the equations that are left have none
+pub none_found : (eqs : Equations) (start now : Substitution) (left : Equations) → Unifying eqs start now left → unifier left ≡ None → unifier eqs ≡ None
+none_found eqs start now left u e = sym u.result ∙ (ap (completed u.made) e ∙ completed-none u.made)
 
 -- the first of the equations that are gone through is the first one that is left
-module _ (eqs : Equations) (first st : StoreView) (waiting others : List ArgumentEquations) (e : ArgumentEquations) (u : Unifying eqs (substitution first) (substitution st) (left_in st (e ∷ waiting))) (there : AllEquations (text_in st) st.now.next (e ∷ waiting)) (kept : KeepsRestEquations e waiting others) where
+module _ (eqs : Equations) (first st : StoreView) (waiting others : List ArgumentEquations) (e : ArgumentEquations) (u : Unifying eqs (substitution first) (substitution st) (equations_left st (e ∷ waiting))) (there : AllEquations (text_in st) st.now.next (e ∷ waiting)) (kept : KeepsRestEquations e waiting others) where
   abbrev left : Term
   left = argument_meaning st e.left.base e.left.at
 
@@ -230,21 +256,21 @@ module _ (eqs : Equations) (first st : StoreView) (waiting others : List Argumen
   rest_kept : HasRestEquations (text_in st) st.now.next e waiting others
   rest_kept = kept (text_in st) st.now.next there.0 there.1
 
-  pub first_is : left_in st (e ∷ waiting) ≡ (left, right) ∷ left_in st others
+  pub first_is : equations_left st (e ∷ waiting) ≡ (left, right) ∷ equations_left st others
   first_is = ap (resolved_equations (substitution st)) (sym rest_kept.equations)
 
-  now_unifying : Unifying eqs (substitution first) (substitution st) ((left, right) ∷ left_in st others)
+  now_unifying : Unifying eqs (substitution first) (substitution st) ((left, right) ∷ equations_left st others)
   now_unifying = subst (Unifying eqs (substitution first) (substitution st)) first_is u
 
-  pub first_follows : (same : st ≡ with_substitution (substitution st) first) (new : StoreView) (opened : List ArgumentEquations) → FollowsRule st new left right opened → GoesOn eqs first st new (left_work eqs (left_in st (e ∷ waiting))) (opened ++ others)
+  pub first_follows : (same : st ≡ with_substitution (substitution st) first) (new : StoreView) (opened : List ArgumentEquations) → FollowsRule st new left right opened → GoesOn eqs first st new (left_work eqs (equations_left st (e ∷ waiting))) (opened ++ others)
   first_follows same new opened f = subst (λ k. GoesOn eqs first st new (left_work eqs k) (opened ++ others)) (sym first_is) (follows eqs first st left right others now_unifying rest_kept.there same new opened f)
 
   pub first_clashes : rule left right ≡ Clash → unifier eqs ≡ None
-  first_clashes k = clash_ends eqs (substitution first) (substitution st) left right (left_in st others) now_unifying k
+  first_clashes k = clash_ends eqs (substitution first) (substitution st) left right (equations_left st others) now_unifying k
 
 -- and at the beginning
 pub start_follows : (first new : StoreView) (a b : Term) (opened : List ArgumentEquations) → FollowsRule first new a b opened → GoesOn ((a, b) ∷ []) first first new (left_work ((a, b) ∷ []) ((a, b) ∷ [])) (opened ++ [])
-start_follows first new a b opened f = follows ((a, b) ∷ []) first first a b [] (begun a b (substitution first) ((a, b) ∷ []) refl) tt refl new opened f
+start_follows first new a b opened f = follows ((a, b) ∷ []) first first a b [] (begun ((a, b) ∷ []) (substitution first) ((a, b) ∷ []) refl) tt refl new opened f
 
 pub start_clashes : (first : StoreView) (a b : Term) → rule a b ≡ Clash → unifier ((a, b) ∷ []) ≡ None
-start_clashes first a b k = clash_ends ((a, b) ∷ []) (substitution first) (substitution first) a b [] (begun a b (substitution first) ((a, b) ∷ []) refl) k
+start_clashes first a b k = clash_ends ((a, b) ∷ []) (substitution first) (substitution first) a b [] (begun ((a, b) ∷ []) (substitution first) ((a, b) ∷ []) refl) k

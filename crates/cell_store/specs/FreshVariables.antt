@@ -3,6 +3,7 @@ use Rattle.std.specs.Prelude.{◌≡◌, ◌⊎◌, ℕ, ◌≤◌, Bool, false,
 use Rattle.au_term.specs.Term.{Term, var_bound}
 use Rattle.au_model.specs.Terms.Each.{Each}
 use Rattle.au_model.specs.Terms.Substitutions.{resolve}
+use Rattle.au_model.specs.Terms.Unifier.{Equations}
 use Rattle.binding_array.specs.declared.cell.BindingCell.{BindingCell}
 use Rattle.binding_array.specs.declared.cell.BindingCell.TheVariants.{Free, Var, Int, Atom, Compound}
 use Rattle.cell_store.specs.StoreView.{StoreView, substitution}
@@ -11,6 +12,10 @@ use Rattle.cell_store.specs.StoreView.{StoreView, substitution}
 abbrev pub IsOlder : Option ℕ → Term → Type 0
 IsOlder None t = Unit {0}
 IsOlder (Some base) t = var_bound t ≤ base
+
+-- and so have those on the left of equations
+abbrev pub AreOlder : Option ℕ → Equations → Type 0
+AreOlder from eqs = Each (λ e. IsOlder from e.0) eqs
 
 -- a variable of the clause of which this is the first one
 abbrev pub is_fresh : ℕ → Option ℕ → Bool

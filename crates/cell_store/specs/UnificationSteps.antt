@@ -35,6 +35,10 @@ abbrev pub AllEquations : CodeView → ℕ → List ArgumentEquations → Type 0
 AllEquations code next [] = Unit {0}
 AllEquations code next (e ∷ es) = AreEquations code next e × AllEquations code next es
 
+-- with what is bound
+abbrev pub equations_left : StoreView → List ArgumentEquations → Equations
+equations_left st es = resolved_equations (substitution st) (pending_equations (text_in st) es)
+
 -- the rule for two sides was gone by, and these equations were opened
 pub data FollowsRule (old new : StoreView) (a b : Term) (opened : List ArgumentEquations) : Type 0 where
   after_same : a ≡ b → new ≡ old → opened ≡ [] → FollowsRule old new a b opened
@@ -78,3 +82,13 @@ pub record AreUnified (a b : BindingCell) (old new : StoreView) : Type 0 where
 abbrev pub IsUnified : BindingCell → BindingCell → StoreView → StoreView → Bool → Type 0
 IsUnified a b old new true = AreUnified a b old new
 IsUnified a b old new false = unifier ((meaning old a, meaning old b) ∷ []) ≡ None
+
+-- the unifier of equations was bound, or there is none
+pub record AreSolved (es : List ArgumentEquations) (old new : StoreView) : Type 0 where
+  pub further : Substitution
+  pub unified : unifier (equations_left old es) ≡ Some further
+  pub binds : BindsFurther old new further
+
+abbrev pub IsSolved : List ArgumentEquations → StoreView → StoreView → Bool → Type 0
+IsSolved es old new true = AreSolved es old new
+IsSolved es old new false = unifier (equations_left old es) ≡ None

@@ -8,11 +8,12 @@
 //! younger one is not put on the trail, since its cell is cut off. Dropping marks undoes nothing. Listing what was
 //! bound since a mark takes as many steps as that, and as many as there are younger variables, with the logarithm of both.
 //!
-//! Unification takes as many steps as it comes to equations. Only arguments that are left behind a compound wait in a list,
-//! whose room is kept. A compound is not gone into beside itself, at the same place with the same number added; one that is
-//! written without variables is the same value whatever the number. A variable that is bound to a compound is searched in
-//! all that this stands for, as long as it is written out, but for arguments that are written without variables; a head's
-//! own variables are not searched, until an older variable is bound to a compound.
+//! Unification takes as many steps as it comes to equations. The arguments that are left behind one compound wait by
+//! themselves; only where more wait are they put into a list, whose room is kept. A compound is not gone into beside
+//! itself, at the same place with the same number added; one that is written without variables is the same value
+//! whatever the number. A variable that is bound to a compound is searched in all that this stands for, as long as it
+//! is written out, but for arguments that are written without variables; a head's own variables are not searched, until
+//! an older variable is bound to a compound.
 //!
 //! Resolving a value takes as many steps as the term has cells, and copying a term in as many as it has, with the logarithm
 //! of the number of names for each name.
@@ -25,6 +26,7 @@ mod made;
 mod mark;
 mod occurs;
 mod resolved;
+mod solve;
 mod store;
 mod unify;
 

@@ -9,10 +9,10 @@ ghost use Rattle.clause_compile.specs.AtomNumbers.{name_at};
 ghost use Rattle.clause_compile.specs.Places.{IsPlaceOf, meaning_in};
 ghost use Rattle.cell_store.specs.Arguments.{HasFunctor, IsArgument, IsArgumentValue, argument_at, code_place};
 ghost use Rattle.cell_store.specs.ArgumentSteps.{IsCompoundPlace, IsFreshPlace, IsArgumentReached};
-ghost use Rattle.cell_store.specs.FreshVariables.{AreYoung, IsOlder};
+ghost use Rattle.cell_store.specs.FreshVariables.{AreOlder, AreYoung};
 ghost use Rattle.cell_store.specs.ListGoals.{list_goal};
 ghost use Rattle.cell_store.specs.MadeBindings.{AreMadeSince};
-ghost use Rattle.cell_store.specs.UnificationSteps.{IsUnified, OnlyBinds};
+ghost use Rattle.cell_store.specs.UnificationSteps.{AllEquations, IsSolved, IsUnified, OnlyBinds, equations_left};
 ghost use Rattle.cell_store.specs.StoreView.{Moment, IsValidStore, IsValueIn, IsDereferenced, CanBeBound, BindsFurther, AddsText, meaning, substitution, text_in, value_term, new_store, with_numbers, with_mark, with_marks, taken_back, over_floor};
 
 use crate::arguments::{Arguments, Equations};
@@ -20,6 +20,7 @@ use crate::heap::Heap;
 use crate::made::bindings_after;
 use crate::mark::{Mark, free_after, mark_of, protected};
 use crate::resolved::resolved;
+use crate::solve::solve;
 use crate::unify::unify;
 use au_term::{Atom, FlatTerm, NoMemory, Shared};
 use binding_array::{BindingArray, BindingCell};
@@ -305,7 +306,7 @@ impl Store {
         ensures unified { IfOk result (IsUnified a b self.old self.new) }
         ensures kept { OnlyBinds self.old self.new }
     {
-        self.unify_from(a, b, None)
+        unify(a, b, None, self)
     }
 
     /// The same, of a goal and the head of a clause whose variables are numbered from `base` on and are in nothing that the
@@ -324,7 +325,8 @@ impl Store {
         ensures unified { IfOk result (IsUnified goal head self.old self.new) }
         ensures kept { OnlyBinds self.old self.new }
     {
-        self.unify_from(goal, head, self.if_young(base))
+        let fresh = self.if_young(base);
+        unify(goal, head, fresh, self)
     }
 
     /// The first variable of a clause, where the clause's variables came after the floor and all marks.
@@ -340,23 +342,26 @@ impl Store {
         }
     }
 
-    /// The same, where with a number it is of a head.
-    #[inline]
-    fn unify_from(
+    /// Solves equations, and then the next ones and the last ones behind them.
+    #[inline(never)]
+    pub(crate) fn solve_behind(
         &mut self,
-        a: BindingCell,
-        b: BindingCell,
+        first: Equations,
+        next: Equations,
+        last: Equations,
         fresh: Option<u32>,
     ) -> Result<bool, NoMemory>
-        requires left { IsValueIn self.old a }
-        requires right { IsValueIn self.old b }
-        requires older { IsOlder fresh (meaning self.old a) }
+        requires there { AllEquations (text_in self.old) self.old.now.next (first ∷ next ∷ last ∷ []) }
+        requires older { AreOlder fresh (equations_left self.old (first ∷ next ∷ last ∷ [])) }
         requires young { AreYoung self.old fresh }
-        ensures unified { IfOk result (IsUnified a b self.old self.new) }
+        ensures solved { IfOk result (IsSolved (first ∷ next ∷ last ∷ []) self.old self.new) }
         ensures kept { OnlyBinds self.old self.new }
     {
         let mut pending = mem::replace(&mut self.pending, Vec::new(self.alloc));
-        let answer = unify(a, b, fresh, self, &mut pending);
+        pending.clear();
+        pending.push(last)?;
+        pending.push(next)?;
+        let answer = solve(first, fresh, self, &mut pending);
         self.pending = pending;
         answer
     }

@@ -29,13 +29,14 @@ pub(crate) enum Outcome {
 
 /// Makes two values one by further bindings, or answers that none do. Where the second is the head of a clause and the
 /// first one older than the clause, `fresh` is the clause's first variable: such a variable is bound to what is older
-/// without the search for it there, and not put on the trail. The list takes the equations that wait behind those that are gone through.
+/// without the search for it there, and not put on the trail. No list is needed while no more than one equation waits
+/// behind those that are gone through.
+#[inline]
 pub(crate) fn unify(
     a: BindingCell,
     b: BindingCell,
     fresh: Option<u32>,
     store: &mut Store,
-    pending: &mut Vec<Equations>,
 ) -> Result<bool, NoMemory>
     requires left { IsValueIn store.old a }
     requires right { IsValueIn store.old b }
@@ -50,20 +51,38 @@ pub(crate) fn unify(
         Outcome::Solved => return Ok(true),
         Outcome::Inside(equations) => equations,
     };
-    pending.clear();
+    let mut waiting = None;
     loop {
         match arguments_go(open.left, open.right, &mut fresh, store)? {
             Outcome::Clash => return Ok(false),
-            Outcome::Solved => match next_equations(open, pending) {
+            Outcome::Solved => match next_or_waiting(open, &mut waiting) {
                 Some(next) => open = next,
                 None => return Ok(true),
             },
             Outcome::Inside(inner) => {
-                push_rest(open, pending)?;
+                if open.left.count > 1 {
+                    if let Some(last) = waiting {
+                        return store.solve_behind(inner, rest(open), last, fresh);
+                    }
+                    waiting = Some(rest(open));
+                }
                 open = inner;
             }
         }
     }
+}
+
+/// The equations that are next, once the first of these is solved.
+#[inline(always)]
+fn next_or_waiting(equations: Equations, waiting: &mut Option<Equations>) -> Option<Equations>
+    requires some { (0 < equations.left.count) × (0 < equations.right.count) }
+    requires short { (equations.left.at < 2 ^ 32 - 1) × (equations.right.at < 2 ^ 32 - 1) }
+    ensures { KeepsRestEquations equations (with_waiting waiting.old []) (with_waiting result (with_waiting waiting.new [])) }
+{
+    if equations.left.count == 1 {
+        return waiting.take();
+    }
+    Some(rest(equations))
 }
 
 /// Goes by the rule for the first equation, which mostly is one of two compounds.
@@ -92,7 +111,7 @@ fn first_goes(
 /// Goes by the rule for the equation of the first two arguments. On the right there are mostly variables of a clause that were
 /// met for the first time, and compounds.
 #[inline(always)]
-fn arguments_go(
+pub(crate) fn arguments_go(
     left: Arguments,
     right: Arguments,
     fresh: &mut Option<u32>,
@@ -376,7 +395,7 @@ fn compounds_go(left: (u32, u32), right: (u32, u32), store: &Store) -> Outcome
 
 /// Equations but for the first.
 #[inline(always)]
-fn rest(equations: Equations) -> Equations
+pub(crate) fn rest(equations: Equations) -> Equations
     requires some { (1 < equations.left.count) × (0 < equations.right.count) }
     requires short { (equations.left.at < 2 ^ 32 - 1) × (equations.right.at < 2 ^ 32 - 1) }
     ensures { (es : List ArgumentEquations) → KeepsRestEquations equations es (result ∷ es) }
@@ -389,30 +408,4 @@ fn rest(equations: Equations) -> Equations
         count: left.count,
     };
     Equations { left, right }
-}
-
-/// The equations that are next, once the first of these is solved.
-#[inline(always)]
-fn next_equations(equations: Equations, pending: &mut Vec<Equations>) -> Option<Equations>
-    requires some { (0 < equations.left.count) × (0 < equations.right.count) }
-    requires short { (equations.left.at < 2 ^ 32 - 1) × (equations.right.at < 2 ^ 32 - 1) }
-    ensures { KeepsRestEquations equations (reverse pending.old.items) (with_waiting result (reverse pending.new.items)) }
-{
-    if equations.left.count == 1 {
-        return pending.pop();
-    }
-    Some(rest(equations))
-}
-
-/// Puts equations but for the first on top.
-#[inline(always)]
-fn push_rest(equations: Equations, pending: &mut Vec<Equations>) -> Result<(), NoMemory>
-    requires some { (0 < equations.left.count) × (0 < equations.right.count) }
-    requires short { (equations.left.at < 2 ^ 32 - 1) × (equations.right.at < 2 ^ 32 - 1) }
-    ensures { OnOk result (KeepsRestEquations equations (reverse pending.old.items) (reverse pending.new.items)) }
-{
-    if equations.left.count > 1 {
-        pending.push(rest(equations))?;
-    }
-    Ok(())
 }

@@ -1,9 +1,10 @@
-use Rattle.std.proofs.Common.{◌∷◌, reverse}
-use Rattle.cell_store.proofs.SolvingLemmas.{IsSolving, solving_work}
+use Rattle.std.proofs.Common.{[], ◌∷◌}
+use Rattle.cell_store.specs.Arguments.{with_waiting}
+use Rattle.cell_store.proofs.SolvingLemmas.{IsSolving, solving_work, whole}
 use Rattle.cell_store.proofs.unify.unify.Given as goal
 
-abbrev pub invariant-loop-pending : goal.invariant-loop-pending
-invariant-loop-pending l = IsSolving l.fn.a l.fn.b l.fn.store l.store l.fresh (l.open ∷ reverse l.pending.items)
+abbrev pub invariant-loop-waiting : goal.invariant-loop-waiting
+invariant-loop-waiting l = IsSolving (whole l.fn.a l.fn.b l.fn.store) l.fn.store l.store l.fresh (l.open ∷ with_waiting l.waiting [])
 
-abbrev pub decreases-loop-pending : goal.decreases-loop-pending
-decreases-loop-pending l = solving_work l.fn.a l.fn.b l.fn.store l.store (l.open ∷ reverse l.pending.items)
+abbrev pub decreases-loop-waiting : goal.decreases-loop-waiting
+decreases-loop-waiting l = solving_work (whole l.fn.a l.fn.b l.fn.store) l.store (l.open ∷ with_waiting l.waiting [])

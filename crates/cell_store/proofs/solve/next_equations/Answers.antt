@@ -2,7 +2,7 @@ use Rattle.std.proofs.Common.{reverse, sym, subst, arith}
 use Rattle.cell_store.specs.UnificationSteps.{KeepsRestEquations}
 use Rattle.cell_store.proofs.WalkLemmas.{popped}
 use Rattle.cell_store.proofs.RuleLemmas.{no_other_equation}
-use Rattle.cell_store.proofs.unify.next_equations.Goals as goal
+use Rattle.cell_store.proofs.solve.next_equations.Goals as goal
 
 pub returns-then-equations-eq1 : goal.returns-then-equations-eq1
 returns-then-equations-eq1 c =

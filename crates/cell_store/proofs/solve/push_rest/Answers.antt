@@ -1,7 +1,7 @@
 use Rattle.std.proofs.Common.{◌∙◌, reverse, sym, subst, ap}
 use Rattle.cell_store.specs.UnificationSteps.{KeepsRestEquations}
 use Rattle.cell_store.proofs.WalkLemmas.{turned}
-use Rattle.cell_store.proofs.unify.push_rest.Goals as goal
+use Rattle.cell_store.proofs.solve.push_rest.Goals as goal
 
 pub returns-in_ok-push : goal.returns-in_ok-push
 returns-in_ok-push c =
