@@ -14,7 +14,7 @@ use Rattle.tree_nodes.proofs.PlaceLemmas.{taken_out}
 use Rattle.tree_closing.specs.Sleeping.{right_of, IsBesideSleeper}
 use Rattle.tree_closing.specs.Closings.{ClosesHere}
 use Rattle.tree_closing.proofs.SleeperLemmas.{Guards, one_beside}
-use Rattle.tree_closing.proofs.ChangeLemmas.{as_sleeper, back_again}
+use Rattle.tree_closing.proofs.ChangeLemmas.{as_sleeper, back_again, hang_together}
 use Rattle.prune_ops.specs.Falls.{ReadsBeside, LandsBeside}
 
 module _ (old mid more new : NodesView) (b : Place) (total : Credit) (body : Body) (n : ℕ) (sleeper : IsBesideSleeper old.rows b)
@@ -33,7 +33,7 @@ module _ (old mid more new : NodesView) (b : Place) (total : Credit) (body : Bod
         let below = adds read w up (Pending Dormant slept) t.way (ap right_of p) asleep (way_to old.rows read (w ∷ up) t.way _ t.around) in
         let row = ap (row_of_node old.rows) (ap (λ (q : Place). q.node) (sym p)) ∙ t.around.1.1.1.row in
         let node : new_node read t.way n body ≡ single n e = ap (λ (x : Branching). new_node read x n body) t.around.1.1.0
-        ∙ reads _ up t.around.1.0 row refl (way_to old.rows read up t.around.1.0 _ t.around.1.1.2) n in
+        ∙ reads _ up t.around.1.0 row refl (way_to old.rows read up t.around.1.0 _ t.around.1.1.2) (hang_together old.rows read up t.around.1.0 _ t.around.1.1.2) n in
         let named = subst (λ (x : Node). IsTableOf mid read (plug (w ∷ up) (Inner x))) node below in
         let linked = set read w up (Inner (single n e)) (ap right_of p) named in
         let back = subst (IsTableOf more read) (back_again v up was slept g (Inner (single n e))) linked in

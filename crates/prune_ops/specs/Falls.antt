@@ -14,6 +14,7 @@ use Rattle.tree_nodes.specs.Gathering.{closed_in}
 use Rattle.tree_nodes.specs.Rows.{AlternativeCell, StoredNode, Rows, row_of_node, cell_at, credit_view}
 use Rattle.tree_nodes.specs.TreeTables.{NodesView, IsTableOf, IsWayTo, above_of}
 use Rattle.tree_closing.specs.Sleeping.{IsBesideSleeper}
+use Rattle.tree_closing.specs.Closings.{HangTogether}
 use Rattle.prune_ops.specs.declared.landing.Landing.{Landing}
 
 -- the level of a node, and those above it
@@ -105,7 +106,7 @@ HasNoSleeper nodes b =
 abbrev pub ReadsBeside : Reading → Rows → Place → Body → Entry → Type 0
 ReadsBeside read rows a body e =
     (r : StoredNode) (up : List Level) (above : Branching) → row_of_node rows a.node ≡ Some r → above_of up ≡ r.parent → IsWayTo rows up above
-    → (n : ℕ) → new_node read ((r.body, 1) ∷ above) n body ≡ single n e
+    → HangTogether rows up → (n : ℕ) → new_node read ((r.body, 1) ∷ above) n body ≡ single n e
 
 -- a place closes with a credit, and what slept beside it wakes as an entry
 abbrev pub LandsBeside : NodesView → NodesView → Place → Credit → Body → Type 0

@@ -11,15 +11,15 @@ use Rattle.tree_model.specs.SoundTrees.{IsSound}
 use Rattle.tree_nodes.specs.Bodies.{Body, BodyKind, Branching, Reading, IsWhole, guards_kind, node_kind, first_hold, new_node, new_alternatives}
 use Rattle.clause_compile.specs.declared.event.Branch.{Branch}
 use Rattle.tree_nodes.specs.Changes.{SetsCell, Adds, is_pending}
-use Rattle.tree_nodes.specs.Rows.{AlternativeCell, PendingCell, InnerCell, ClosedCell, row_of_node, alternatives_at, cell_at}
+use Rattle.tree_nodes.specs.Rows.{AlternativeCell, PendingCell, InnerCell, ClosedCell, StoredNode, Rows, row_of_node, alternatives_at, cell_at}
 use Rattle.tree_nodes.specs.TreeTables.{cell_of, cells_of, NodesView, IsTableOf, Stand}
 use Rattle.tree_nodes.proofs.AddLemmas.{way_to}
 use Rattle.tree_nodes.proofs.LocateLemmas.{IsAt, located}
-use Rattle.tree_nodes.proofs.PlaceLemmas.{left_cells, IsPlaced, taken_out}
+use Rattle.tree_nodes.proofs.PlaceLemmas.{left_cells, AreRound, IsPlaced, taken_out}
 use Rattle.tree_nodes.proofs.PutLemmas.{is_some_cell}
 use Rattle.tree_nodes.proofs.WalkLemmas.{cells_beside, cell_here}
 use Rattle.tree_closing.specs.Sleeping.{right_of, is_asleep_at, IsBesideSleeper}
-use Rattle.tree_closing.specs.Closings.{IsRest, ClosesHere, HasSleeper, Rests, RestsWoken, IsSingle, ReadsWoken, RestsAs, Wakes, is_waking, credit_after, woken_entry}
+use Rattle.tree_closing.specs.Closings.{IsRest, ClosesHere, HasSleeper, HangTogether, Rests, RestsWoken, IsSingle, ReadsWoken, RestsAs, Wakes, is_waking, credit_after, woken_entry}
 use Rattle.tree_closing.specs.declared.way_up.Beside.{Beside}
 use Rattle.tree_closing.specs.declared.way_up.Beside.TheVariants.{Same, Closes, Gathers, Ends}
 use Rattle.tree_closing.proofs.SleeperLemmas.{Guards, one_beside}
@@ -64,6 +64,12 @@ rests_closes old mid new b total beside set closed a c h read v up was next p s 
     let gone = subst (IsTableOf mid read) (back_again k.level k.above k.status g.entry g.asleep (Closed no_credit)) shut in
     subst (λ (x : Grown). IsTableOf new read x.root) (sym r.rests) (closed read (with_right (Closed no_credit) k.level) k.above k.status k.at gone)
 
+-- the levels of a tree hang together
+pub hang_together : (rows : Rows) (read : Reading) (levels : List Level) (way : Branching) (cell : AlternativeCell) → AreRound rows read levels way cell → HangTogether rows levels
+hang_together rows read [] way cell h = tt
+hang_together rows read (v ∷ up) way cell h =
+    (ap (option_map (λ (r : StoredNode). r.parent)) h.1.1.1.row, hang_together rows read up h.1.0 (InnerCell v.number) h.1.1.2)
+
 -- a node of one branch
 one_branch : (bs : List Branch) → length bs ≡ 1 → (b : Branch) × (bs ≡ b ∷ [])
 one_branch [] e = absurd cc
@@ -89,7 +95,8 @@ module _ (old mid more new : NodesView) (b : Place) (total : Credit) (beside : B
     entry_is : (t : IsPlaced old.rows read (w ∷ up) (Pending Dormant e)) → read ((body, 0) ∷ t.way) ≡ woken_entry v.number total.records e
     entry_is t =
         let row = ap (row_of_node old.rows) (ap (λ (q : Place). q.node) (sym p)) ∙ t.around.1.1.1.row in
-        let here = reads _ up t.around.1.0 row refl (way_to old.rows read up t.around.1.0 _ t.around.1.1.2) in
+        let hang = hang_together old.rows read up t.around.1.0 _ t.around.1.1.2 in
+        let here = reads _ up t.around.1.0 row refl (way_to old.rows read up t.around.1.0 _ t.around.1.1.2) hang in
         ap (λ (x : Branching). read ((body, 0) ∷ x)) t.around.1.1.0
         ∙ (here
         ∙ (ap (λ (x : Branching). woken_entry b.node total.records (read x)) (sym t.around.1.1.0)

@@ -8,7 +8,7 @@ use Rattle.tree_model.specs.Levels.{Level, plug, Place, place_at}
 use Rattle.tree_model.specs.Closing.{Grown, guarded, with_right, with_results, findall_goes_on, wakes, closes}
 use Rattle.tree_model.specs.SoundTrees.{IsSound}
 use Rattle.tree_nodes.specs.Bodies.{Body, ChoiceBody, Branching, Reading}
-use Rattle.tree_nodes.specs.Rows.{StoredNode, Rows, row_of_node}
+use Rattle.tree_nodes.specs.Rows.{StoredNode, Rows, row_of_node, node_parent}
 use Rattle.tree_nodes.specs.TreeTables.{NodesView, IsTableOf, IsWayTo, above_of}
 use Rattle.tree_closing.specs.Sleeping.{IsBesideSleeper}
 use Rattle.tree_closing.specs.declared.way_up.Beside.{Beside}
@@ -92,11 +92,16 @@ pub record IsSingle (body : Body) : Type 0 where
   pub kind : body.kind ≡ ChoiceBody
   pub one : length body.branches ≡ 1
 
+-- levels that hang together: each node is below the place on the level above it
+abbrev pub HangTogether : Rows → List Level → Type 0
+HangTogether rows [] = Unit {0}
+HangTogether rows (v ∷ up) = (node_parent rows v.number ≡ Some (above_of up)) × HangTogether rows up
+
 -- below what sleeps beside a place, a body reads as what wakes there with these records
 abbrev pub ReadsWoken : Reading → Rows → Place → List Term → Body → Type 0
 ReadsWoken read rows a records body =
     (r : StoredNode) (up : List Level) (above : Branching) → row_of_node rows a.node ≡ Some r → above_of up ≡ r.parent → IsWayTo rows up above
-    → read ((body, 0) ∷ (r.body, 1) ∷ above) ≡ woken_entry a.node records (read ((r.body, 1) ∷ above))
+    → HangTogether rows up → read ((body, 0) ∷ (r.body, 1) ∷ above) ≡ woken_entry a.node records (read ((r.body, 1) ∷ above))
 
 -- the same where the number n is drawn for a node of what wakes
 abbrev pub WakesAt : NodesView → NodesView → Place → Credit → Place → Credit → Body → ℕ → Type 0
