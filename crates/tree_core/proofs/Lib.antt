@@ -5,3 +5,4 @@ mod ReturnedLemmas
 mod TurnLemmas
 mod OpenLemmas
 mod PromiseLemmas
+mod OutLemmas

@@ -1,5 +1,5 @@
 //! What is handed out to workers, and what they give back.
-ghost use Rattle.std.specs.Prelude.{◌≡◌, true, is_some, IfOk, OnErr};
+ghost use Rattle.std.specs.Prelude.{◌≡◌, true, is_some, IfOk, IfSome, OnErr};
 ghost use Rattle.std.specs.List.{list_any};
 ghost use Rattle.tree_model.specs.EventViews.{place_view};
 ghost use Rattle.tree_model.specs.Events.{Claim, Resume, Suspend, Lost};
@@ -25,6 +25,7 @@ impl<J: JobBrand> Tree<J> {
     pub fn claim(&mut self, worker: u32) -> Result<Option<AltRef>, NoMemory>
         ensures offered { IfOk result (λ at. parent_view at ≡ offered_at claimable (state_of self.old.history)) }
         ensures noted { IfOk result (λ at. self.new.history ≡ handing_out (Claim worker) (parent_view at) self.old.history) }
+        ensures out { IfOk result (λ at. IfSome at (λ a. is_some (taken_at worker (place_view a) (state_of self.new.history)) ≡ true)) }
         ensures once { IfOk result (λ at. WasHanded Never (parent_view at) self.old.history) }
         ensures never_stuck { IfOk result (λ at. LeavesOther resumable (parent_view at) (state_of self.old.history)) }
         ensures err { OnErr result (self.new.history ≡ self.old.history) }
@@ -38,6 +39,7 @@ impl<J: JobBrand> Tree<J> {
     pub fn resume(&mut self, worker: u32) -> Result<Option<AltRef>, NoMemory>
         ensures offered { IfOk result (λ at. parent_view at ≡ offered_at resumable (state_of self.old.history)) }
         ensures noted { IfOk result (λ at. self.new.history ≡ handing_out (Resume worker) (parent_view at) self.old.history) }
+        ensures out { IfOk result (λ at. IfSome at (λ a. is_some (taken_at worker (place_view a) (state_of self.new.history)) ≡ true)) }
         ensures once { IfOk result (λ at. WasHanded Away (parent_view at) self.old.history) }
         ensures never_stuck { IfOk result (λ at. LeavesOther claimable (parent_view at) (state_of self.old.history)) }
         ensures err { OnErr result (self.new.history ≡ self.old.history) }
