@@ -1,0 +1,3 @@
+pub mod StopCauses
+pub mod StopGates
+pub mod FrontCuts
