@@ -1,0 +1,81 @@
+use Rattle.std.proofs.Common.{◌≡◌, get_or, slice_get, Some, true, sym, ap, ◌∙◌, arith}
+use Rattle.std.specs.Arc.{arc_value}
+use Rattle.tree_model.specs.EventViews.{place_view}
+use Rattle.tree_nodes.specs.Bodies.{body_view, kind_view}
+use Rattle.tree_nodes.specs.Rows.{alternatives_at, row_of_node}
+use Rattle.tree_nodes.specs.declared.body.NodeBody.{NodeBody}
+use Rattle.task_closing.specs.GatheredResults.{gathered_view, unifying_item}
+use Rattle.task_closing.specs.WokenBodies.{are_variable_free}
+use Rattle.task_closing.proofs.WokenLemmas.{got_at, second_within, made_woken, following_made, same_made}
+use Rattle.task_closing.proofs.woken.body_beside.Goals as goal
+
+pub returns-in_ok-quiet_body-in-Findall : goal.returns-in_ok-quiet_body-in-Findall
+returns-in_ok-quiet_body-in-Findall c =
+    let rows = c.args.nodes.now.rows in
+    let body = arc_value c.body-body.result.now in
+    let second = c.index-second.result.now in
+    let many = c.body-body.ensures.branches in
+    let most = second_within (alternatives_at (row_of_node rows c.args.at.node)) c.requires.asleep in
+    let there : slice_get body.branches.items 1 ≡ Some second = got_at body.branches.items 1 second (omega (arith, many, most))
+    (c.index-second.ensures ∙ ap (λ (b : NodeBody). get_or b.branches.items 1 second) c.deref.ensures) in
+    let free : are_variable_free c.in-Findall.results.items ≡ true = ap are_variable_free (sym c.deref-in-Findall.ensures.value) ∙ (sym c.are_variable_free.ensures ∙ c.if-not-are_variable_free.false) in
+    let all = gathered_view c.in_ok-all-in-Findall.all in
+    let item = c.in_ok-item-in-Findall.ensures ∙ ap (unifying_item c.args.at.node c.in-Findall.list) c.deref-in-Findall-4.ensures.value in
+    let view = c.in_ok-all-in-Findall.ensures in
+    made_woken rows (place_view c.args.at) c.args.records.now (body_view (arc_value c.in_ok-quiet_body-in-Findall.field-0)) (body_view body) second _ c.body-body.ensures.body there
+    (ap kind_view (ap (λ (b : NodeBody). b.kind) (sym c.deref-2.ensures) ∙ c.in-Findall.is)) free
+    (following_made (body_view (arc_value c.in_ok-quiet_body-in-Findall.field-0)) c.args.at.node c.args.records.now c.in-Findall.results.items c.in-Findall.list second c.in-Some.next
+    c.in_ok-goals-in-Findall.goals c.in_ok-item-in-Findall.item all c.in_ok-quiet_body-in-Findall.ensures c.in_ok-goals-in-Findall.ensures item
+    (view ∙ cc (c.deref-in-Findall-2.ensures.value, c.deref-in-Findall-3.ensures.value, c.in_ok-records-in-Findall.ensures)) c.in-Some.ensures.1)
+
+pub returns-in_ok-same_body-in-Choice : goal.returns-in_ok-same_body-in-Choice
+returns-in_ok-same_body-in-Choice c =
+    let rows = c.args.nodes.now.rows in
+    let body = arc_value c.body-body.result.now in
+    let second = c.index-second.result.now in
+    let many = c.body-body.ensures.branches in
+    let most = second_within (alternatives_at (row_of_node rows c.args.at.node)) c.requires.asleep in
+    let there : slice_get body.branches.items 1 ≡ Some second = got_at body.branches.items 1 second (omega (arith, many, most))
+    (c.index-second.ensures ∙ ap (λ (b : NodeBody). get_or b.branches.items 1 second) c.deref.ensures) in
+    made_woken rows (place_view c.args.at) c.args.records.now (body_view (arc_value c.in_ok-same_body-in-Choice.field-0)) (body_view body) second _ c.body-body.ensures.body there
+    (ap kind_view (ap (λ (b : NodeBody). b.kind) (sym c.deref-2.ensures) ∙ c.in-Choice.is)) tt
+    (same_made (body_view (arc_value c.in_ok-same_body-in-Choice.field-0)) second c.in-Some.next c.in_ok-same_body-in-Choice.ensures c.in-Some.ensures.1)
+
+pub returns-in_ok-same_body-in-Condition : goal.returns-in_ok-same_body-in-Condition
+returns-in_ok-same_body-in-Condition c =
+    let rows = c.args.nodes.now.rows in
+    let body = arc_value c.body-body.result.now in
+    let second = c.index-second.result.now in
+    let many = c.body-body.ensures.branches in
+    let most = second_within (alternatives_at (row_of_node rows c.args.at.node)) c.requires.asleep in
+    let there : slice_get body.branches.items 1 ≡ Some second = got_at body.branches.items 1 second (omega (arith, many, most))
+    (c.index-second.ensures ∙ ap (λ (b : NodeBody). get_or b.branches.items 1 second) c.deref.ensures) in
+    made_woken rows (place_view c.args.at) c.args.records.now (body_view (arc_value c.in_ok-same_body-in-Condition.field-0)) (body_view body) second _ c.body-body.ensures.body there
+    (ap kind_view (ap (λ (b : NodeBody). b.kind) (sym c.deref-2.ensures) ∙ c.in-Condition.is)) tt
+    (same_made (body_view (arc_value c.in_ok-same_body-in-Condition.field-0)) second c.in-Some.next c.in_ok-same_body-in-Condition.ensures c.in-Some.ensures.1)
+
+pub returns-in_ok-same_body-in-Catch : goal.returns-in_ok-same_body-in-Catch
+returns-in_ok-same_body-in-Catch c =
+    let rows = c.args.nodes.now.rows in
+    let body = arc_value c.body-body.result.now in
+    let second = c.index-second.result.now in
+    let many = c.body-body.ensures.branches in
+    let most = second_within (alternatives_at (row_of_node rows c.args.at.node)) c.requires.asleep in
+    let there : slice_get body.branches.items 1 ≡ Some second = got_at body.branches.items 1 second (omega (arith, many, most))
+    (c.index-second.ensures ∙ ap (λ (b : NodeBody). get_or b.branches.items 1 second) c.deref.ensures) in
+    made_woken rows (place_view c.args.at) c.args.records.now (body_view (arc_value c.in_ok-same_body-in-Catch.field-0)) (body_view body) second _ c.body-body.ensures.body there
+    (ap kind_view (ap (λ (b : NodeBody). b.kind) (sym c.deref-2.ensures) ∙ c.in-Catch.is)) tt
+    (same_made (body_view (arc_value c.in_ok-same_body-in-Catch.field-0)) second c.in-Some.next c.in_ok-same_body-in-Catch.ensures c.in-Some.ensures.1)
+
+pub returns-in_ok-same_body-in-Query : goal.returns-in_ok-same_body-in-Query
+returns-in_ok-same_body-in-Query c =
+    let rows = c.args.nodes.now.rows in
+    let body = arc_value c.body-body.result.now in
+    let second = c.index-second.result.now in
+    let many = c.body-body.ensures.branches in
+    let most = second_within (alternatives_at (row_of_node rows c.args.at.node)) c.requires.asleep in
+    let there : slice_get body.branches.items 1 ≡ Some second = got_at body.branches.items 1 second (omega (arith, many, most))
+    (c.index-second.ensures ∙ ap (λ (b : NodeBody). get_or b.branches.items 1 second) c.deref.ensures) in
+    made_woken rows (place_view c.args.at) c.args.records.now (body_view (arc_value c.in_ok-same_body-in-Query.field-0)) (body_view body) second _ c.body-body.ensures.body there
+    (ap kind_view (ap (λ (b : NodeBody). b.kind) (sym c.deref-2.ensures) ∙ c.in-Query.is)) tt
+    (same_made (body_view (arc_value c.in_ok-same_body-in-Query.field-0)) second c.in-Some.next c.in_ok-same_body-in-Query.ensures c.in-Some.ensures.1)

@@ -1,0 +1,3 @@
+pub mod GatheredResults
+pub mod WokenBodies
+pub mod WakingPlaces
