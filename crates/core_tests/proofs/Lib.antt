@@ -1,2 +1,3 @@
 mod HandRunLemmas
 mod FailingLemmas
+mod AskedLemmas

@@ -1,2 +1,3 @@
 pub mod FailingQueries
 pub mod HandRuns
+pub mod AskedJobs

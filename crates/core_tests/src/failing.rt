@@ -3,7 +3,7 @@ ghost use Rattle.std.specs.Prelude.{◌≡◌, [], ◌∷◌, IfOk};
 ghost use Rattle.core_tests.specs.FailingQueries.{failing_query, failing_job, failing_history, StartsFailing};
 
 use crate::hand_runs::{claim, end, fail, goals, open_next};
-use crate::loaded::run_loaded;
+use crate::loaded::{ends_query, run_loaded};
 use branch_loading::laws::plain_entries_load;
 use public_tree::Answering;
 use run_model::RunEnding;
@@ -70,6 +70,7 @@ fn run_whole<J: JobBrand>(rt: &impl Abort, alloc: Global) -> Result<Tree<J>, Fai
         node: 1,
         alternative: 0,
     };
+    expect(rt, ends_query(alloc, &tree, at)?, true);
     let rest = end(&mut tree, at)?;
     expect(rt, rest, (place(0, 1), Beside::Same, Answering::Taken));
     Ok(tree)

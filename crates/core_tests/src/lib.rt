@@ -8,3 +8,5 @@ mod failing;
 mod hand_runs;
 #[cfg(test)]
 mod loaded;
+#[cfg(test)]
+mod published;

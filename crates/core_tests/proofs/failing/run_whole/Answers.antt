@@ -11,3 +11,6 @@ end-requires g c = end_is_last g.J.JobBrand.job c.in_ok-tree.tree.history c.requ
 
 pub returns : goal.returns
 returns g c = c.in_ok-rest.ensures ∙ end_taken g.J.JobBrand.job c.in_ok-tree.tree.history c.in_ok-tree.ensures
+
+pub ends_query-requires : goal.ends_query-requires
+ends_query-requires g c = (end_is_last g.J.JobBrand.job c.in_ok-tree.tree.history c.requires c.in_ok-tree.ensures).task.out
