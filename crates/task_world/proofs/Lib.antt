@@ -1,0 +1,9 @@
+mod SpotLemmas
+mod EventLemmas
+mod BranchLemmas
+mod FrontLemmas
+mod RemovalLemmas
+mod AnswerLemmas
+mod TopLemmas
+mod ToldLemmas
+mod LoadedLemmas

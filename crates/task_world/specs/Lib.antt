@@ -1,0 +1,3 @@
+pub mod FrontItems
+pub mod FrontSteps
+pub mod FrontsTold
