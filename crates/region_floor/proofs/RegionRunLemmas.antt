@@ -137,7 +137,7 @@ module _ (r : RegionRun) (k : ℕ) where
       let g = balls_are_gates r.clauses r.deferred r.levels x b (record { outcome = has t o h; outer = outer }) left
       (thrown t b h (EndEntry left ∷ []) e) in
       let scope = ball_scope r.levels (after_reply (Ball b) (joined_continuation r.deferred t.after) (true_stack r.deferred r.levels x.below)) in
-      record { ball = g.ball; scope = scope; stops = stops t o h (BallGate scope) g.gate }
+      record { outcome = h.outcome; ball = g.ball; scope = scope; stops = stops t o h (BallGate scope) g.gate }
 
   pub world_stops : (t : TopGoal) (goal : Term) → TakesGoal r k t (AskWorld goal) → StandsAtGate r k (goal_entries t) WorldGate
   world_stops t goal h =

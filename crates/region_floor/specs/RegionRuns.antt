@@ -108,8 +108,9 @@ BallsStand =
     (r : RegionRun) (k : ℕ) (t : TopGoal) (b : Term) → AreOuter r → TakesGoal r k t (Replies (Ball b)) → (f : Continuation ℕ) (es : List Entry)
     → after_reply (Ball b) t.after t.below ≡ PlainEntry f ∷ es → StandsAfter r (suc k) (PlainEntry f ∷ es)
 
--- a ball that no own entry takes: it is left as a copy, and is a gate
+-- a ball that the goal on top throws and no own entry takes: it is left as a copy, and is a gate
 pub record FallsAt (r : RegionRun) (k : ℕ) (t : TopGoal) (b : Term) (left : Option Term) : Type 0 where
+  pub outcome : outcome_of r.clauses t.goal t.after.next ≡ Replies (Ball b)
   pub ball : left ≡ Some (copied b 0)
   pub scope : ℕ
   pub stops : StandsAtGate r k (goal_entries t) (BallGate scope)

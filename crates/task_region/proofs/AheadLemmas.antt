@@ -182,6 +182,6 @@ module _ (t : TaskView) (r1 : RegionView) (text : r1.text ≡ t.region.text) (st
           takes.there.0,
           subst (ComesToResult r k) (sym (stack_is n r2 r3 p leaves takes.there.1 r k named s h.0)) h.1,
         );
-    there = ((leaves.position, refl, tt), (λ e. e));
+    there = ((leaves.position, refl, (takes.there.0, rest_next n r2 r3 p leaves takes.there.1)), (λ e. e));
     same = record { text = (left_same n r2 r3 p leaves takes.there.1).text; start = (left_same n r2 r3 p leaves takes.there.1).start; floor = refl; variables = refl; deferred = refl };
   }

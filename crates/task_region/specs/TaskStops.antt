@@ -45,14 +45,15 @@ StandForNothing deferred [] = Unit {0}
 StandForNothing deferred (RemovalItem number ∷ []) = slice_get deferred number ≡ None
 StandForNothing deferred items = ⊥
 
--- what is next where the world is needed: a goal, the removal of a clause that is deferred, or nothing
+-- what is next where the world is needed: a goal, the removal of a clause that is deferred, or nothing; and at a result, that which is deferred
+-- under its number
 abbrev pub IsNextFor : TaskStop → TaskView → Type 0
 IsNextFor Limit t = Unit {0}
 IsNextFor (Cut node) t = Unit {0}
 IsNextFor (World item g) t = IsWorldNext t.region t.next item g
 IsNextFor (Removal clause) t = (number : ℕ) × (slice_get t.deferred number ≡ Some (RemovalItem clause)) × AreDeferredNext t.region t.next (RemovalItem number ∷ [])
 IsNextFor Answer t = (items : List (Item ℕ)) × StandForNothing t.deferred items × AreDeferredNext t.region t.next items
-IsNextFor (Collect number) t = Unit {0}
+IsNextFor (Collect number) t = IsResultAt t.deferred number × AreDeferredNext t.region t.next (RemovalItem number ∷ [])
 IsNextFor (Ball ball) t = Unit {0}
 IsNextFor Empty t = Unit {0}
 
