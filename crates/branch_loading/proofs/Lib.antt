@@ -4,3 +4,4 @@ mod HeightLemmas
 mod BindingLemmas
 pub mod LoadLemmas
 mod LoadableLemmas
+pub mod AtPlaceLemmas

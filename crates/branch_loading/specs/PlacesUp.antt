@@ -2,12 +2,14 @@
 use Rattle.std.specs.Prelude.{◌≡◌, ◌<◌, ℕ, Bool, true, false, List, [], ◌∷◌, ◌++◌, map, take, Option, Some, None, is_some, slice_get}
 use Rattle.au_model.specs.Terms.Each.{Each}
 use Rattle.au_term.specs.declared.segment.Segment.{Segment}
+use Rattle.clause_compile.specs.declared.item.Item.{Item}
 use Rattle.tree_model.specs.Levels.{Level, Place, plug, place_at}
 use Rattle.tree_model.specs.Nodes.{Status}
 use Rattle.tree_nodes.specs.Bodies.{Body, BodyKind, ChoiceBody, ConditionBody, CatchBody, FindallBody, QueryBody, Branching, Reading}
 use Rattle.tree_nodes.specs.Rows.{StoredNode, Rows, row_of_node}
 use Rattle.tree_nodes.specs.TreeTables.{NodesView, IsTableOf, IsBelow, IsWayTo, stored_body}
-use Rattle.branch_reading.specs.BranchSegments.{own_segments, segments_on}
+use Rattle.branch_reading.specs.BranchSegments.{next_number, own_segments, segments_on}
+use Rattle.branch_reading.specs.SettledWays.{branch_items}
 
 -- a node's place, and what is above it: its parent, whose number is smaller
 pub record IsStepUp (rows : Rows) (p : Place) (above : Option Place) : Type 0 where
@@ -43,6 +45,13 @@ segments_above rows p above = own_segments (slice_get (body_at rows p).branches 
 abbrev pub segments_at : Rows → List Place → List Segment
 segments_at rows [] = []
 segments_at rows (p ∷ places) = segments_above rows p (segments_at rows places)
+
+-- what an alternative has left to do, and its next variable number
+abbrev pub items_at_place : Rows → Place → List Item
+items_at_place rows a = branch_items (slice_get (body_at rows a).branches a.index)
+
+abbrev pub number_left : Rows → Place → ℕ
+number_left rows a = next_number (segments_at rows (a ∷ []))
 
 abbrev pub is_query_body : BodyKind → Bool
 is_query_body ChoiceBody = false

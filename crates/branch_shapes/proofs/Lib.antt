@@ -12,3 +12,4 @@ pub mod GroupedRunLemmas
 pub mod MeantRunLemmas
 pub mod ShapedBodyLemmas
 pub mod ShapedRunLemmas
+pub mod OutLemmas

@@ -1,10 +1,9 @@
 -- The cut that comes first at an alternative, and what it leaves.
-use Rattle.std.proofs.Common.{◌≡◌, ◌⊎◌, inl, inr, ℕ, Bool, true, false, cond, List, [], ◌∷◌, map, length, ◌++◌, slice_get, Option, Some, None, refl, sym, ap, ◌∙◌, subst}
+use Rattle.std.proofs.Common.{◌≡◌, ◌⊎◌, inl, inr, ℕ, Bool, true, false, cond, List, [], ◌∷◌, length, Some, None, refl, sym, ap, ◌∙◌, subst}
 use Rattle.std.specs.Prelude.{nat_lt, is_some, IsSome}
 use Rattle.std.specs.List.{list_all}
 use Rattle.au_model.specs.Terms.Each.{Each}
 use Rattle.au_model.specs.Terms.Substitutions.{Substitution}
-use Rattle.clause_compile.specs.declared.event.Branch.{Branch}
 use Rattle.clause_compile.specs.declared.item.Item.{Item as BranchItem}
 use Rattle.clause_compile.specs.declared.item.Item.TheVariants.{Goal, CatchEnd, Collect, Remove, End}
 use Rattle.clause_compile.specs.declared.item.Scope.{Scope}
@@ -13,25 +12,27 @@ use Rattle.run_model.specs.Programs.Jobs.{Job}
 use Rattle.run_model.specs.Goals.Outcomes.{Solutions, Ball, HaltNumber, GoesOnWith, EitherOf, TestOf, CutToScope, CatchOf, FindallOf, Outcome, Replies, Controls, AskWorld}
 use Rattle.run_model.specs.Machine.Balls.{unwound}
 use Rattle.run_model.specs.Machine.Entries.{Entry, PlainEntry, CatchEntry, FindallEntry, EndEntry}
-use Rattle.run_model.specs.Machine.Items.{Item, GoalItem, CatchMark, CollectMark, RemovalItem, Continuation, first_mark, resolve_item, without_marks}
+use Rattle.run_model.specs.Machine.Items.{Continuation, first_mark, without_marks}
 use Rattle.tree_model.specs.Floors.{floor_of, height_of, node_of, with_heights}
 use Rattle.tree_model.specs.Gates.{ball_scope, gate_on, goal_gate, is_caught_above, item_gate}
 use Rattle.tree_model.specs.LegalTrees.{IsLegalTree}
 use Rattle.tree_model.specs.Legality.{gate_of, taken_at}
-use Rattle.tree_model.specs.Levels.{Level, Place, place_at, Spot, levels_of}
+use Rattle.tree_model.specs.Levels.{Level, Place, Spot, levels_of}
 use Rattle.tree_model.specs.Nodes.{BallGate, CutGate}
 use Rattle.tree_model.specs.PendingLists.{way_of}
 use Rattle.tree_model.specs.TreeStates.{TreeState}
 use Rattle.tree_model.specs.Ways.{IsAsked, IsOnWay}
 use Rattle.tree_nodes.specs.Bodies.{Body, ChoiceBody, Branching}
-use Rattle.tree_nodes.specs.Rows.{Rows, row_of_node, scope_number}
-use Rattle.tree_nodes.specs.TreeTables.{NodesView, IsTableOf, IsWayTo, stored_body}
-use Rattle.branch_reading.specs.BranchSegments.{above_in_query, bound_by, next_number, own_segments, segments_on}
+use Rattle.tree_nodes.specs.Rows.{row_of_node, scope_number}
+use Rattle.tree_nodes.specs.TreeTables.{NodesView, IsTableOf, IsWayTo}
+use Rattle.branch_reading.specs.BranchSegments.{bound_by, next_number, segments_on}
 use Rattle.branch_reading.specs.NumberedReadings.{IsEndOn, IsSettledReading, NumberedTreesAreSettled}
 use Rattle.branch_reading.specs.Readings.{entry_if, entry_meant, entry_on, items_meant, or_nothing, reading}
-use Rattle.branch_reading.specs.SettledWays.{branch_items, is_item_settled, is_way_settled, items_on}
-use Rattle.branch_loading.specs.PlacesUp.{missing_body}
+use Rattle.branch_reading.specs.SettledWays.{is_item_settled, is_way_settled, items_on}
+use Rattle.branch_loading.specs.PlacesUp.{items_at_place, number_left}
+use Rattle.branch_loading.proofs.AtPlaceLemmas.{items_at, number_at, row_there}
 use Rattle.branch_shapes.specs.FloorItems.{NamesLevels, ScopedItemsNameLevels}
+use Rattle.branch_shapes.proofs.OutLemmas.{IsOutAt, out_at, awake_at, names_back, spot_out}
 use Rattle.branch_shapes.proofs.FloorItemLemmas.{has_height}
 use Rattle.branch_steps.specs.CutReadings.{CutsAreRead, IsAtCut, IsPlainOn}
 use Rattle.branch_steps.specs.RestBodies.{IsRestBody, items_behind, quiet_segment}
@@ -39,41 +40,15 @@ use Rattle.branch_steps.proofs.PlainItemLemmas.{above, bound, high, stack_is}
 use Rattle.branch_steps.proofs.PlainReadingLemmas.{bound_continuation, plain_reading}
 use Rattle.branch_steps.proofs.RestReadingLemmas.{items_settled}
 use Rattle.public_tree.specs.PublicPruning.{CutsAs}
-use Rattle.task_gates.specs.FrontCuts.{items_at_place, number_left, scope_in_front}
+use Rattle.task_gates.specs.FrontCuts.{scope_in_front}
 use Rattle.task_gates.specs.StopGates.{IsBeforeCut}
-use Rattle.task_gates.proofs.OutLemmas.{IsOutThere, out_there, spot_out}
-
--- by the rows, an alternative has left what its way says
-module _ (rows : Rows) (v : Level) (up : List Level) (way : Branching) (on : IsWayTo rows (v ∷ up) way) where
-  abbrev made : Body
-  made = stored_body missing_body (row_of_node rows v.number)
-
-  body_there : made ≡ on.0.body
-  body_there = ap (stored_body missing_body) on.1.1.0
-
-  pub items_there : items_on way ≡ items_at_place rows (place_at v)
-  items_there = ap items_on on.1.1.1 ∙ ap (λ (b : Body). branch_items (slice_get b.branches (length v.left))) (sym body_there)
-
-  pub number_there : next_number (segments_on way) ≡ number_left rows (place_at v)
-  number_there =
-      ap (λ (w : Branching). next_number (segments_on w)) on.1.1.1
-      ∙ (by_branch on.0.body (slice_get on.0.body.branches (length v.left))
-      ∙ ap (λ (b : Body). next_number (own_segments (slice_get b.branches (length v.left)) ++ b.segment ∷ [])) (sym body_there))
-    where
-      by_branch : (b : Body) (o : Option Branch) → next_number (own_segments o ++ b.segment ∷ above_in_query b.kind (segments_on on.1.0))
-          ≡ next_number (own_segments o ++ b.segment ∷ [])
-      by_branch b None = refl
-      by_branch b (Some branch) = refl
-
-  pub row_there : IsSome (row_of_node rows v.number)
-  row_there = ap is_some on.1.1.0
 
 -- the node of an alternative that is out is there
 pub row_out : (job : Job) (nodes : NodesView) (t : TreeState) (w : ℕ) (a : Place) → IsTableOf nodes (reading job) t.root → IsLegalTree t
     → is_some (taken_at w a t) ≡ true → IsSome (row_of_node nodes.rows a.node)
 row_out job nodes t w a placed legal out =
     let s = spot_out (taken_at w a t) out in
-    let there = out_there job nodes t w a s.0 placed legal s.1 in
+    let there = out_at job nodes t w a s.0 placed s.1 in
     subst (λ (p : Place). IsSome (row_of_node nodes.rows p.node)) there.at (row_there nodes.rows s.0.level s.0.above there.way there.on)
 
 -- a goal at the gate of a cut has its scope
@@ -119,15 +94,6 @@ scope_first clauses levels s f es n next (Collect template scope ∷ items) sett
 scope_first clauses levels s f es n next (Remove id ∷ items) settled on gate = absurd cc
 scope_first clauses levels s f es n next (End ball ∷ items) settled on gate = absurd cc
 
--- bindings leave the nodes that an item names
-names_unbound : (levels : List Level) (s : Substitution) (items : List (Item ℕ)) → Each (NamesLevels levels) (map (resolve_item s) items)
-    → Each (NamesLevels levels) items
-names_unbound levels s [] h = tt
-names_unbound levels s (GoalItem t n ∷ items) h = (h.0, names_unbound levels s items h.1)
-names_unbound levels s (CatchMark n ∷ items) h = (h.0, names_unbound levels s items h.1)
-names_unbound levels s (CollectMark t n ∷ items) h = (h.0, names_unbound levels s items h.1)
-names_unbound levels s (RemovalItem n ∷ items) h = (h.0, names_unbound levels s items h.1)
-
 -- an entry at the gate of a cut is plain
 plain_there : (clauses : List Clause) (levels : List Level) (e : Entry) (n : ℕ) → gate_on clauses levels (with_heights levels e ∷ floor_of levels) ≡ Some (CutGate n)
     → (f : Continuation ℕ) × (e ≡ PlainEntry f)
@@ -162,8 +128,8 @@ module _ (job : Job) (nodes : NodesView) (t : TreeState) (w : ℕ) (a : Place) (
     abbrev node : ℕ
     node = (before s taken).0
 
-    there : IsOutThere job nodes t a s
-    there = out_there job nodes t w a s placed legal taken
+    there : IsOutAt job nodes t w a s
+    there = out_at job nodes t w a s placed taken
 
     known : IsSettledReading job way s.entry
     known = settled job nodes t.root placed legal.numbered s.level s.above s.hold s.entry there.in_tree way path
@@ -186,9 +152,9 @@ module _ (job : Job) (nodes : NodesView) (t : TreeState) (w : ℕ) (a : Place) (
     names =
         let bound_here = or_nothing (bound_by (segments_on way)) in
         let same : bound_continuation job way ≡ plain.0 = plain_reading job way plain.0 way_settled (sym known.reads ∙ plain.1) in
-        let asked : IsAsked (way_of levels) plain.0.items = subst (IsOnWay (way_of levels)) plain.1 there.asked in
+        let asked : IsAsked (way_of levels) plain.0.items = subst (IsOnWay (way_of levels)) plain.1 (awake_at job nodes t w a s legal there).asked in
         let bound_names : Each (NamesLevels levels) plain.0.items = scoped levels plain.0.items asked.scoped in
-        names_unbound levels bound_here (items_meant (items_on way)) (subst (λ (f : Continuation ℕ). Each (NamesLevels levels) f.items) (sym same) bound_names)
+        names_back levels bound_here (items_meant (items_on way)) (subst (λ (f : Continuation ℕ). Each (NamesLevels levels) f.items) (sym same) bound_names)
 
     pub is_plain : IsPlainOn job s way
     is_plain = record { reads = known.reads; settled = way_settled; plain = plain; scoped = names }
@@ -202,7 +168,7 @@ module _ (job : Job) (nodes : NodesView) (t : TreeState) (w : ℕ) (a : Place) (
         (sym (ap (gate_on t.job.clauses levels) (stack_is job (rest_of way) s way is_plain rb)) ∙ gate_is)
 
     left_there : items_on way ≡ items_at_place nodes.rows a
-    left_there = items_there nodes.rows s.level s.above way path ∙ ap (items_at_place nodes.rows) there.at
+    left_there = items_at nodes.rows s.level s.above way path ∙ ap (items_at_place nodes.rows) there.at
 
     pub is_at_cut : (scope : Scope) → scope_in_front (items_at_place nodes.rows a) ≡ Some scope → IsAtCut job (scope_number scope) t s way
     unfolding gate_of
@@ -217,7 +183,7 @@ module _ (job : Job) (nodes : NodesView) (t : TreeState) (w : ℕ) (a : Place) (
         → IsRestBody (items_behind (items_on way)) (next_number (segments_on way)) body
     is_rest body h =
         let number : next_number (segments_on way) ≡ number_left nodes.rows a
-        = number_there nodes.rows s.level s.above way path ∙ ap (number_left nodes.rows) there.at in
+        = number_at nodes.rows s.level s.above way path ∙ ap (number_left nodes.rows) there.at in
         subst (λ n. IsRestBody (items_behind (items_on way)) n body) (sym number)
         (subst (λ (xs : List BranchItem). IsRestBody (items_behind xs) (number_left nodes.rows a) body) (sym left_there) h)
 
@@ -225,7 +191,7 @@ module _ (job : Job) (nodes : NodesView) (t : TreeState) (w : ℕ) (a : Place) (
   pub front_out : is_some (taken_at w a t) ≡ true → is_some (scope_in_front (items_at_place nodes.rows a)) ≡ true
   front_out out =
       let s = spot_out (taken_at w a t) out in
-      let there = out_there job nodes t w a s.0 placed legal s.1 in
+      let there = out_at job nodes t w a s.0 placed s.1 in
       let k = in_front s.0 there.way s.1 there.on in
       ap is_some (ap scope_in_front (sym (left_there s.0 there.way s.1 there.on)) ∙ k.front)
 
@@ -234,10 +200,10 @@ module _ (job : Job) (nodes : NodesView) (t : TreeState) (w : ℕ) (a : Place) (
   cuts_out scope body front rest law =
       law job nodes.rows (scope_number scope) body w a t
       (λ s way taken path. (is_at_cut s way taken path scope front, is_rest s way taken path body rest))
-      (λ s taken. let there = out_there job nodes t w a s placed legal taken in (there.way, there.on))
+      (λ s taken. let there = out_at job nodes t w a s placed taken in (there.way, there.on))
 
   pub gate_out : (scope : Scope) → scope_in_front (items_at_place nodes.rows a) ≡ Some scope → (s : Spot) → taken_at w a t ≡ Some s
       → gate_of t s ≡ Some (CutGate (scope_number scope))
   gate_out scope front s taken =
-      let there = out_there job nodes t w a s placed legal taken in
+      let there = out_at job nodes t w a s placed taken in
       (is_at_cut s there.way taken there.on scope front).gate

@@ -1,6 +1,4 @@
 mod GateRestLemmas
-mod JobKeptLemmas
-mod OutLemmas
 mod CauseLemmas
 mod StopGateLemmas
 mod FrontCutLemmas

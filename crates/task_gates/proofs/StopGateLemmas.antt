@@ -13,14 +13,14 @@ use Rattle.tree_model.specs.TreeStates.{TreeState}
 use Rattle.tree_model.specs.Ways.{IsAwake}
 use Rattle.tree_core.specs.Histories.{TreeView, NodesStand, state_of}
 use Rattle.branch_loading.specs.TaskLoads.{run_on_branch}
+use Rattle.branch_shapes.proofs.OutLemmas.{IsOutAt, out_at, awake_at}
 use Rattle.task_region.specs.TaskViews.{TaskView}
 use Rattle.task_region.specs.declared.running.TaskStop.{TaskStop}
 use Rattle.task_region.specs.declared.running.TaskStop.TheVariants.{Limit, Cut, World, Removal, Answer, Collect, Ball, Empty}
+use Rattle.task_publishing.proofs.JobLemmas.{job_of_state}
 use Rattle.task_gates.specs.StopCauses.{HasStoppedFor, StopsThereFor}
 use Rattle.task_gates.specs.StopGates.{IsGateOfStop, StopsAreGates, CutStopsAreCuts}
 use Rattle.task_gates.proofs.GateRestLemmas.{gate_at_start}
-use Rattle.task_gates.proofs.JobKeptLemmas.{job_kept}
-use Rattle.task_gates.proofs.OutLemmas.{IsOutThere, out_there}
 
 module _ (outer : MarksAreOuter) (v : TreeView) (w : ℕ) (a : Place) (task : TaskView) (stop : TaskStop) (stand : NodesStand v) (legal : IsLegalTree (state_of v.history))
     (stops : StopsThereFor v.nodes a v.history.job.clauses 0 task stop) where
@@ -31,19 +31,19 @@ module _ (outer : MarksAreOuter) (v : TreeView) (w : ℕ) (a : Place) (task : Ta
   job = v.history.job
 
   module _ (s : Spot) (taken : taken_at w a t ≡ Some s) where
-    there : IsOutThere job v.nodes t a s
-    there = out_there job v.nodes t w a s stand.placed legal taken
+    there : IsOutAt job v.nodes t w a s
+    there = out_at job v.nodes t w a s stand.placed taken
 
     stopped : HasStoppedFor t.job.clauses (levels_of s) job there.way 0 task stop
     stopped =
-        subst (λ (j : Job). HasStoppedFor j.clauses (levels_of s) job there.way 0 task stop) (sym (job_kept v.history))
+        subst (λ (j : Job). HasStoppedFor j.clauses (levels_of s) job there.way 0 task stop) (sym (job_of_state v.history))
         (stops job _ s.level s.above (Pending s.hold s.entry) there.way there.at there.table there.on)
 
     gate_here : (g : Gate) (stack : List Entry) → StandsAtGate (run_on_branch t.job.clauses (levels_of s) job there.way) 0 stack g → gate_of t s ≡ Some g
     unfolding gate_of
     gate_here g stack st =
         ap (λ e. gate_on t.job.clauses (levels_of s) (with_heights (levels_of s) e ∷ floor_of (levels_of s))) there.reads
-        ∙ gate_at_start t.job.clauses s.level s.above outer job there.way stack g (subst IsAwake there.reads there.awake) st
+        ∙ gate_at_start t.job.clauses s.level s.above outer job there.way stack g (subst IsAwake there.reads (awake_at job v.nodes t w a s legal there).awake) st
 
 gates_by : MarksAreOuter → (v : TreeView) (w : ℕ) (a : Place) (task : TaskView) (stop : TaskStop) → NodesStand v → IsLegalTree (state_of v.history)
     → StopsThereFor v.nodes a v.history.job.clauses 0 task stop → IsGateOfStop stop w a (state_of v.history)

@@ -15,7 +15,8 @@ use Rattle.branch_reading.specs.Readings.{reading}
 use Rattle.branch_shapes.specs.FloorItems.{ScopedItemsNameLevels}
 use Rattle.task_region.specs.declared.running.TaskStop.{TaskStop}
 use Rattle.task_region.specs.declared.running.TaskStop.TheVariants.{Limit, Cut, World, Removal, Answer, Collect, Ball, Empty}
-use Rattle.task_gates.specs.FrontCuts.{IsGateFor, items_at_place, scope_in_front}
+use Rattle.branch_loading.specs.PlacesUp.{items_at_place}
+use Rattle.task_gates.specs.FrontCuts.{IsGateFor, scope_in_front}
 use Rattle.task_gates.specs.StopGates.{IsCutStop, IsGateOfStop}
 use Rattle.task_gates.proofs.FrontCutLemmas.{front_out, gate_out}
 use Rattle.task_gates.proofs.StopGateLemmas.{cut_stops_are_cuts}

@@ -1,16 +1,12 @@
 -- The cut that comes first at an alternative, by what its node was made from.
-use Rattle.std.specs.Prelude.{◌≡◌, ℕ, List, [], ◌∷◌, Option, Some, None, slice_get}
+use Rattle.std.specs.Prelude.{◌≡◌, List, [], ◌∷◌, Option, Some, None}
 use Rattle.clause_compile.specs.declared.item.Item.{Item}
 use Rattle.clause_compile.specs.declared.item.Item.TheVariants.{Goal, CatchEnd, Collect, Remove, End}
 use Rattle.clause_compile.specs.declared.item.Scope.{Scope}
 use Rattle.task_region.specs.declared.running.TaskStop.{TaskStop}
 use Rattle.task_region.specs.declared.running.TaskStop.TheVariants.{Limit, Cut, World, Removal, Answer, Collect as CollectStop, Ball, Empty}
-use Rattle.tree_model.specs.Levels.{Place}
 use Rattle.tree_model.specs.Nodes.{Gate, CutGate, WorldGate}
-use Rattle.tree_nodes.specs.Rows.{Rows, scope_number}
-use Rattle.branch_reading.specs.BranchSegments.{next_number}
-use Rattle.branch_reading.specs.SettledWays.{branch_items}
-use Rattle.branch_loading.specs.PlacesUp.{body_at, segments_at}
+use Rattle.tree_nodes.specs.Rows.{scope_number}
 
 -- the scope of the first goal past the ends of catches, where that is what comes first
 abbrev pub scope_in_front : List Item → Option Scope
@@ -20,13 +16,6 @@ scope_in_front (CatchEnd scope ∷ items) = scope_in_front items
 scope_in_front (Collect template scope ∷ items) = None
 scope_in_front (Remove id ∷ items) = None
 scope_in_front (End ball ∷ items) = None
-
--- what an alternative has left to do, and its next variable number
-abbrev pub items_at_place : Rows → Place → List Item
-items_at_place rows a = branch_items (slice_get (body_at rows a).branches a.index)
-
-abbrev pub number_left : Rows → Place → ℕ
-number_left rows a = next_number (segments_at rows (a ∷ []))
 
 -- the gate of a stop at a cut to this scope, or where the world is needed
 abbrev pub IsGateFor : TaskStop → Option Scope → Gate → Type 0

@@ -9,7 +9,8 @@ ghost use Rattle.tree_nodes.specs.Rows.{row_of_node};
 ghost use Rattle.tree_core.specs.Histories.{state_of};
 ghost use Rattle.tree_core.specs.Turns.{where_legal, pruning_of};
 ghost use Rattle.branch_steps.specs.RestBodies.{IsRestBody, items_behind};
-ghost use Rattle.task_gates.specs.FrontCuts.{items_at_place, number_left, scope_in_front};
+ghost use Rattle.branch_loading.specs.PlacesUp.{items_at_place, number_left};
+ghost use Rattle.task_gates.specs.FrontCuts.{scope_in_front};
 ghost use Rattle.task_gates.specs.StopGates.{IsBeforeCut, IsKeptUntaken};
 
 use crate::front::{branch_of, scope_at};

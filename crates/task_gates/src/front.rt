@@ -3,8 +3,8 @@ ghost use Rattle.std.specs.Prelude.{◌≡◌, true, is_some, IsSome, Some, slic
 ghost use Rattle.std.specs.Option.{option_copied};
 ghost use Rattle.tree_model.specs.EventViews.{place_view};
 ghost use Rattle.tree_nodes.specs.Rows.{row_of_node};
-ghost use Rattle.branch_loading.specs.PlacesUp.{body_at};
-ghost use Rattle.task_gates.specs.FrontCuts.{items_at_place, scope_in_front};
+ghost use Rattle.branch_loading.specs.PlacesUp.{body_at, items_at_place};
+ghost use Rattle.task_gates.specs.FrontCuts.{scope_in_front};
 
 use clause_compile::{Branch, Goals, Item, Scope};
 use tree_model::AltRef;

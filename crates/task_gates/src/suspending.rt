@@ -6,7 +6,8 @@ ghost use Rattle.tree_model.specs.Legality.{taken_at};
 ghost use Rattle.tree_model.specs.Nodes.{WorldGate};
 ghost use Rattle.tree_nodes.specs.Rows.{gate_view, row_of_node};
 ghost use Rattle.tree_core.specs.Histories.{state_of, while_going};
-ghost use Rattle.task_gates.specs.FrontCuts.{IsGateFor, items_at_place, scope_in_front};
+ghost use Rattle.branch_loading.specs.PlacesUp.{items_at_place};
+ghost use Rattle.task_gates.specs.FrontCuts.{IsGateFor, scope_in_front};
 ghost use Rattle.task_gates.specs.StopGates.{is_cut_or_world, IsCutStop, IsGateOfStop};
 
 use crate::front::scope_at;

@@ -4,8 +4,8 @@ mod FloorEndLemmas
 mod TakenLemmas
 mod NodesDownLemmas
 mod BodyLemmas
-mod StoppedLemmas
+pub mod StoppedLemmas
 mod SpotLemmas
 mod RunLemmas
-mod TaskLemmas
-mod JobLemmas
+pub mod TaskLemmas
+pub mod JobLemmas

@@ -35,7 +35,8 @@ loaded_stop nodes a text old new limit ran l r job read v up was way at table on
       next = r.next;
     }
 
-still_stands : (r : RegionRun) (k : ℕ) (named : List NamedTerm) (t : TaskView) (stop : TaskStop) → IsSome t.next → LeavesNext stop t.next → StopsTask r k named t stop
+-- where it can go on, a task that has stopped stands on its run
+pub still_stands : (r : RegionRun) (k : ℕ) (named : List NamedTerm) (t : TaskView) (stop : TaskStop) → IsSome t.next → LeavesNext stop t.next → StopsTask r k named t stop
     → StandsOnRun r k named t
 still_stands r k named t (Ball ball) some next s = absurd (no_next t.next some next)
 still_stands r k named t Empty some next s = absurd (no_next t.next some next)

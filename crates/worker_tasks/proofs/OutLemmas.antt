@@ -1,9 +1,9 @@
 -- What is out to a worker is a task or the end of a query.
-use Rattle.std.proofs.Common.{◌≡◌, ◌⊎◌, inl, inr, ℕ, ◌==◌, Bool, true, false, cond, List, [], ◌∷◌, length, Option, Some, None, refl, sym, ap, ◌∙◌, subst}
+use Rattle.std.proofs.Common.{◌≡◌, ◌⊎◌, inl, inr, ℕ, ◌==◌, Bool, true, false, cond, List, [], ◌∷◌, Option, Some, None, refl, sym, ap, ◌∙◌, subst}
 use Rattle.std.specs.List.{list_all}
-use Rattle.std.specs.Prelude.{◌&&◌, is_some, slice_get}
+use Rattle.std.specs.Prelude.{is_some}
 use Rattle.au_term.specs.Term.{Term}
-use Rattle.au_term.proofs.LogicLemmas.{both, false_true}
+use Rattle.au_term.proofs.LogicLemmas.{false_true}
 use Rattle.au_model.specs.Terms.Substitutions.{Substitution}
 use Rattle.run_model.specs.Machine.Entries.{Entry, PlainEntry, CatchEntry, FindallEntry, EndEntry}
 use Rattle.run_model.specs.Machine.Items.{Continuation, resolve_continuation}
@@ -11,29 +11,24 @@ use Rattle.run_model.specs.Programs.Jobs.{Job}
 use Rattle.clause_compile.specs.declared.item.Item.{Item as BranchItem}
 use Rattle.clause_compile.specs.declared.item.Item.TheVariants.{Goal, CatchEnd, Collect, Remove, End}
 use Rattle.tree_model.specs.LegalTrees.{IsLegalTree}
-use Rattle.tree_model.specs.Legality.{is_taken_by, taken_at}
-use Rattle.tree_model.specs.Levels.{Level, Place, plug, place_at, same_place, Spot, levels_of, place_of_spot, pending_of}
-use Rattle.tree_model.specs.Nodes.{Hold, Ready, TakenBy, Waiting, Dormant, Pending}
-use Rattle.tree_model.specs.SoundTrees.{IsSound}
+use Rattle.tree_model.specs.Legality.{taken_at}
+use Rattle.tree_model.specs.Levels.{Place, plug, Spot, levels_of}
+use Rattle.tree_model.specs.Nodes.{Pending}
 use Rattle.tree_model.specs.TreeStates.{TreeState}
-use Rattle.tree_model.specs.Ways.{IsAwake, IsHeldBy}
+use Rattle.tree_model.specs.Ways.{IsAwake}
 use Rattle.tree_nodes.specs.Bodies.{BodyKind, ChoiceBody, ConditionBody, CatchBody, FindallBody, QueryBody, Branching}
-use Rattle.tree_nodes.specs.Rows.{Rows, StoredNode, PendingCell, row_of_node}
-use Rattle.tree_nodes.specs.TreeTables.{NodesView, IsTableOf, IsWayTo, stored_body}
-use Rattle.tree_nodes.proofs.PlaceLemmas.{IsPlaced, taken_out}
-use Rattle.tree_nodes.proofs.AddLemmas.{way_to}
+use Rattle.tree_nodes.specs.Rows.{row_of_node}
+use Rattle.tree_nodes.specs.TreeTables.{NodesView, IsTableOf}
 use Rattle.branch_reading.specs.BranchSegments.{segments_on, bound_by, next_number}
 use Rattle.branch_reading.specs.NumberedReadings.{IsEndOn, IsSettledReading, NumberedTreesAreSettled}
-use Rattle.branch_reading.specs.Readings.{entry_if, entry_meant, entry_on, entry_beside, guard_meant, continuation_on, or_nothing, reading}
-use Rattle.branch_reading.specs.SettledWays.{branch_items, is_item_settled, is_way_settled, items_on}
-use Rattle.branch_loading.specs.PlacesUp.{missing_body, body_at}
+use Rattle.branch_reading.specs.Readings.{entry_if, entry_meant, entry_on, guard_meant, continuation_on, or_nothing, reading}
+use Rattle.branch_reading.specs.SettledWays.{is_item_settled, is_way_settled, items_on}
+use Rattle.branch_shapes.proofs.OutLemmas.{IsOutAt, out_at, awake_at}
+use Rattle.branch_loading.specs.PlacesUp.{items_at_place}
+use Rattle.branch_loading.proofs.AtPlaceLemmas.{items_at}
 use Rattle.branch_loading.specs.TaskLoads.{IsLoadablePlace, PlainEntriesLoad}
 use Rattle.branch_loading.proofs.LoadLemmas.{reads_settled, settled_items}
-use Rattle.interleaving.proofs.AppendLemmas.{IsFound, found}
-use Rattle.interleaving.proofs.ContextLemmas.{taken_out as sound_out}
-use Rattle.interleaving.proofs.PluggedLemmas.{IsIn, all_in}
-use Rattle.interleaving.proofs.UnchangedPlaceLemmas.{same_place-is}
-use Rattle.worker_tasks.specs.OutTasks.{end_ball, first_end, items_there, EndsQueryAt, IsTaskOrEnd, IsOutOf, OutsAreTasksOrEnds}
+use Rattle.worker_tasks.specs.OutTasks.{first_end, IsTaskOrEnd, IsOutOf, OutsAreTasksOrEnds}
 
 -- a guard is no end of a query
 no_end_guard : (kind : BodyKind) (test : Bool) (s : Substitution) (f : Continuation ℕ) (b : Option Term)
@@ -73,55 +68,22 @@ same_ball way a b e f = let k : Some a ≡ Some b = sym (ap first_end e) ∙ f i
 no_ball : (way : Branching) (a : Option Term) → items_on way ≡ End a ∷ [] → first_end (items_on way) ≡ None → ⊥
 no_ball way a e f = let k : Some a ≡ None = sym (ap first_end e) ∙ f in cc
 
-held_awake : (w : ℕ) (h : Hold) (e : Entry) → is_taken_by w h ≡ true → IsHeldBy h e → IsAwake e
-held_awake w (TakenBy v) e k h = h
-held_awake w Ready e k h = absurd (cc k)
-held_awake w (Waiting g) e k h = absurd (cc k)
-held_awake w Dormant e k h = absurd (cc k)
-
--- the items of the innermost branch stand at its place
-items_at_way : (rows : Rows) (v : Level) (up : List Level) (way : Branching) (a : Place) → place_at v ≡ a → IsWayTo rows (v ∷ up) way
-    → items_there rows a ≡ items_on way
-items_at_way rows v up way a at on =
-    let r = on.0 in
-    let above = on.1.0 in
-    let row : row_of_node rows v.number ≡ Some r = on.1.1.0 in
-    let is : way ≡ (r.body, length v.left) ∷ above = on.1.1.1 in
-    ap (items_there rows) (sym at)
-    ∙ (ap (λ (o : Option StoredNode). branch_items (slice_get (stored_body missing_body o).branches (length v.left))) row ∙ sym (ap items_on is))
-
 module _ (settled : NumberedTreesAreSettled) (load : PlainEntriesLoad) (job : Job) (nodes : NodesView) (w : ℕ) (a : Place) (t : TreeState)
     (placed : IsTableOf nodes (reading job) t.root) (legal : IsLegalTree t) (s : Spot) (taken : taken_at w a t ≡ Some s) where
-  found_there : IsFound (IsIn t.root) (λ r. is_taken_by w r.hold && same_place a (place_of_spot r)) s
-  found_there =
-      found (IsIn t.root) (λ r. is_taken_by w r.hold && same_place a (place_of_spot r)) (pending_of t.root) s (all_in t.root) taken
-
-  parts : (is_taken_by w s.hold ≡ true) × (same_place a (place_of_spot s) ≡ true)
-  parts = both (is_taken_by w s.hold) (same_place a (place_of_spot s)) found_there.passes
-
-  at : place_at s.level ≡ a
-  at = sym (same_place-is a (place_of_spot s) parts.1)
-
-  table : IsTableOf nodes (reading job) (plug (levels_of s) (Pending s.hold s.entry))
-  table = subst (IsTableOf nodes (reading job)) (sym found_there.holds) placed
-
-  there : IsPlaced nodes.rows (reading job) (levels_of s) (Pending s.hold s.entry)
-  there = taken_out nodes.rows (reading job) (levels_of s) (Pending s.hold s.entry) table.placed
-
-  on : IsWayTo nodes.rows (levels_of s) there.way
-  on = way_to nodes.rows (reading job) (levels_of s) there.way (PendingCell s.hold) there.around
+  there : IsOutAt job nodes t w a s
+  there = out_at job nodes t w a s placed taken
 
   number : IsSettledReading job there.way s.entry
-  number = settled job nodes t.root placed legal.numbered s.level s.above s.hold s.entry found_there.holds there.way on
+  number = settled job nodes t.root placed legal.numbered s.level s.above s.hold s.entry there.in_tree there.way there.on
 
   awake : IsAwake s.entry
-  awake = held_awake w s.hold s.entry parts.0 (sound_out (levels_of s) (Pending s.hold s.entry) (subst (IsSound []) (sym found_there.holds) legal.sound.sound)).1.1
+  awake = (awake_at job nodes t w a s legal there).awake
 
   -- where no end comes first
   task_there : first_end (items_on there.way) ≡ None → (e : Entry) → s.entry ≡ e → IsAwake e → IsLoadablePlace nodes.rows a
   task_there none (PlainEntry f) is k =
-      subst (IsLoadablePlace nodes.rows) at
-      (load job nodes t.root placed legal.numbered s.level s.above s.hold f (ap (λ x. plug (levels_of s) (Pending s.hold x)) (sym is) ∙ found_there.holds))
+      subst (IsLoadablePlace nodes.rows) there.at
+      (load job nodes t.root placed legal.numbered s.level s.above s.hold f (ap (λ x. plug (levels_of s) (Pending s.hold x)) (sym is) ∙ there.in_tree))
   task_there none (CatchEntry c r f) is k = absurd k
   task_there none (FindallEntry rs l f) is k = absurd k
   task_there none (EndEntry b) is k = absurd (by_case number.settled)
@@ -148,9 +110,9 @@ module _ (settled : NumberedTreesAreSettled) (load : PlainEntriesLoad) (job : Jo
 
   pub out_there : IsOutOf nodes.rows w a t
   out_there = record {
-    there = ap (λ (b : Place). is_some (row_of_node nodes.rows b.node)) (sym at) ∙ ap is_some on.1.1.0;
+    there = ap (λ (b : Place). is_some (row_of_node nodes.rows b.node)) (sym there.at) ∙ ap is_some there.on.1.1.0;
     is =
-        subst (λ (items : List BranchItem). IsTaskOrEnd nodes.rows w a t (first_end items)) (sym (items_at_way nodes.rows s.level s.above there.way a at on))
+        subst (λ (items : List BranchItem). IsTaskOrEnd nodes.rows w a t (first_end items)) (items_at nodes.rows s.level s.above there.way there.on ∙ ap (items_at_place nodes.rows) there.at)
         (task_or_end (first_end (items_on there.way)) refl);
   }
 

@@ -1,5 +1,5 @@
 -- What is out to a worker: a task, or the end of a query.
-use Rattle.std.specs.Prelude.{◌≡◌, ℕ, true, List, [], ◌∷◌, Option, Some, None, is_some, IsSome, slice_get}
+use Rattle.std.specs.Prelude.{◌≡◌, ℕ, true, List, [], ◌∷◌, Option, Some, None, is_some, IsSome}
 use Rattle.au_term.specs.Term.{Term}
 use Rattle.run_model.specs.Machine.Entries.{EndEntry}
 use Rattle.run_model.specs.Programs.Jobs.{Job}
@@ -14,8 +14,7 @@ use Rattle.tree_nodes.specs.Rows.{Rows, row_of_node}
 use Rattle.tree_nodes.specs.TreeTables.{NodesView, IsTableOf}
 use Rattle.tree_core.specs.Histories.{TreeView, state_of}
 use Rattle.branch_reading.specs.Readings.{reading}
-use Rattle.branch_reading.specs.SettledWays.{branch_items}
-use Rattle.branch_loading.specs.PlacesUp.{body_at}
+use Rattle.branch_loading.specs.PlacesUp.{items_at_place}
 use Rattle.branch_loading.specs.TaskLoads.{IsLoadablePlace, LoadsTask}
 use Rattle.worker_tasks.specs.declared.out_tasks.OutTask.{OutTask}
 use Rattle.worker_tasks.specs.declared.out_tasks.OutTask.TheVariants.{Task, QueryEnd}
@@ -33,10 +32,6 @@ abbrev pub first_end : List BranchItem → Option (Option Term)
 first_end [] = None
 first_end (item ∷ items) = end_ball item
 
--- what the branch at a place has left to do
-abbrev pub items_there : Rows → Place → List BranchItem
-items_there rows a = branch_items (slice_get (body_at rows a).branches a.index)
-
 -- what is out to a worker here ends a query with this ball
 abbrev pub EndsQueryAt : ℕ → Place → Option Term → TreeState → Type 0
 EndsQueryAt w a ball t = (s : Spot) → taken_at w a t ≡ Some s → s.entry ≡ EndEntry ball
@@ -49,7 +44,7 @@ IsTaskOrEnd rows w a t (Some ball) = EndsQueryAt w a ball t
 -- at a node that is there
 pub record IsOutOf (rows : Rows) (w : ℕ) (a : Place) (t : TreeState) : Type 0 where
   pub there : IsSome (row_of_node rows a.node)
-  pub is : IsTaskOrEnd rows w a t (first_end (items_there rows a))
+  pub is : IsTaskOrEnd rows w a t (first_end (items_at_place rows a))
 
 abbrev pub OutsAreTasksOrEnds : Type 0
 OutsAreTasksOrEnds =

@@ -5,7 +5,8 @@ ghost use Rattle.tree_model.specs.EventViews.{place_view};
 ghost use Rattle.tree_model.specs.Legality.{taken_at};
 ghost use Rattle.tree_nodes.specs.Rows.{row_of_node};
 ghost use Rattle.tree_core.specs.Histories.{state_of};
-ghost use Rattle.worker_tasks.specs.OutTasks.{IsOutThere, end_ball, first_end, items_there};
+ghost use Rattle.branch_loading.specs.PlacesUp.{items_at_place};
+ghost use Rattle.worker_tasks.specs.OutTasks.{IsOutThere, end_ball, first_end};
 
 use crate::laws::outs_are_tasks_or_ends;
 use au_term::{FlatTerm, NoMemory};
@@ -54,7 +55,7 @@ pub fn take_up<J: JobBrand>(
 /// The ball by which a query ends, if any did, where its end is the first item of an alternative.
 fn end_at(nodes: &Nodes, at: AltRef) -> Result<Option<Option<FlatTerm>>, NoMemory>
     requires { IsSome (row_of_node nodes.now.rows at.node) }
-    ensures { IfOk result (λ ball. ball ≡ first_end (items_there nodes.now.rows (place_view at))) }
+    ensures { IfOk result (λ ball. ball ≡ first_end (items_at_place nodes.now.rows (place_view at))) }
 {
     let Some(branch) = nodes.body(at.node).branches.get(at.alternative as usize) else {
         return Ok(None);

@@ -8,7 +8,8 @@ use Rattle.tree_nodes.specs.Rows.{row_of_node}
 use Rattle.tree_nodes.specs.TreeTables.{NodesView}
 use Rattle.tree_core.specs.Histories.{state_of}
 use Rattle.branch_steps.specs.RestBodies.{IsRestBody, items_behind}
-use Rattle.task_gates.specs.FrontCuts.{items_at_place, number_left, scope_in_front}
+use Rattle.branch_loading.specs.PlacesUp.{items_at_place, number_left}
+use Rattle.task_gates.specs.FrontCuts.{scope_in_front}
 use Rattle.task_gates.proofs.FrontCutLemmas.{row_out, front_out, cuts_out}
 use Rattle.task_gates.proofs.UntakenLemmas.{kept_untaken}
 use Rattle.task_gates.proofs.cuts.cut_task.Goals as goal

@@ -5,7 +5,8 @@ use Rattle.tree_model.specs.Events.{Suspend}
 use Rattle.tree_nodes.specs.Rows.{gate_view, row_of_node}
 use Rattle.tree_nodes.specs.TreeTables.{NodesView}
 use Rattle.tree_core.specs.Histories.{state_of, while_going}
-use Rattle.task_gates.specs.FrontCuts.{IsGateFor, items_at_place, scope_in_front}
+use Rattle.branch_loading.specs.PlacesUp.{items_at_place}
+use Rattle.task_gates.specs.FrontCuts.{IsGateFor, scope_in_front}
 use Rattle.task_gates.specs.StopGates.{IsCutStop}
 use Rattle.task_gates.proofs.FrontCutLemmas.{row_out}
 use Rattle.task_gates.proofs.SuspendLemmas.{front_of_cut, gate_of_front, not_frozen}

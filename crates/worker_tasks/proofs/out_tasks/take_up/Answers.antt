@@ -8,14 +8,15 @@ use Rattle.tree_nodes.specs.Rows.{Rows, row_of_node}
 use Rattle.tree_nodes.specs.TreeTables.{NodesView}
 use Rattle.tree_core.specs.Histories.{TreeView, state_of}
 use Rattle.branch_loading.specs.TaskLoads.{IsLoadablePlace, HasLoadableBranch}
-use Rattle.worker_tasks.specs.OutTasks.{first_end, items_there, IsTaskOrEnd, IsOutOf}
+use Rattle.branch_loading.specs.PlacesUp.{items_at_place}
+use Rattle.worker_tasks.specs.OutTasks.{first_end, IsTaskOrEnd, IsOutOf}
 use Rattle.worker_tasks.proofs.out_tasks.take_up.Goals as goal
 
 -- what is found to be first says which of the two it is
 found_first : (rows found : Rows) (w : ℕ) (a : Place) (t : TreeState) (o : Option (Option Term)) → found ≡ rows → IsOutOf rows w a t
-    → o ≡ first_end (items_there found a) → IsTaskOrEnd rows w a t o
+    → o ≡ first_end (items_at_place found a) → IsTaskOrEnd rows w a t o
 found_first rows found w a t o same h e =
-    subst (IsTaskOrEnd rows w a t) (sym (e ∙ ap (λ (rs : Rows). first_end (items_there rs a)) same)) h.is
+    subst (IsTaskOrEnd rows w a t) (sym (e ∙ ap (λ (rs : Rows). first_end (items_at_place rs a)) same)) h.is
 
 pub end_at-requires : goal.end_at-requires
 end_at-requires g c =
