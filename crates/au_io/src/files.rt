@@ -192,39 +192,3 @@ fn read_piece<F: Read>(
         }
     }
 }
-
-#[cfg(test)]
-mod tests {
-    use super::*;
-    use std::test::Fail;
-
-    /// It gives a byte, is interrupted, and then fails.
-    struct Torn {
-        reads: u8,
-    }
-
-    impl Read for Torn {
-        fn read(&mut self, buf: &mut [u8]) -> io::Result<usize> {
-            self.reads = self.reads.saturating_add(1);
-            match (self.reads, buf.first_mut()) {
-                (1, Some(first)) => {
-                    *first = b'a';
-                    Ok(1)
-                }
-                (2, _) => Err(io::Error::from(ErrorKind::Interrupted)),
-                _ => Err(io::Error::from(ErrorKind::Other)),
-            }
-        }
-    }
-
-    #[test]
-    fn fails_in_mid_stream(rt: HostRuntime) -> Result<(), Fail> {
-        let mut bytes = Vec::new(rt.alloc());
-        let mut torn = Torn { reads: 0 };
-        assert!(rt; fill(&mut bytes, &mut torn, 9) == Err(ReadRefusal::ReadFault));
-        assert!(rt; bytes.as_slice() == b"a".as_slice());
-        let Torn { reads } = torn;
-        assert_eq!(rt; reads, 3);
-        Ok(())
-    }
-}

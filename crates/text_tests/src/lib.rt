@@ -17,4 +17,6 @@ mod terms;
 #[cfg(test)]
 mod tokens;
 #[cfg(test)]
+mod torn_files;
+#[cfg(test)]
 mod writing;
