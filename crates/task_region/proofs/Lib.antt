@@ -11,3 +11,4 @@ mod StandingRunLemmas
 mod AheadLemmas
 mod RoundLemmas
 mod RunningLemmas
+pub mod ResultLemmas

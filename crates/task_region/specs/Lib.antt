@@ -8,3 +8,4 @@ pub mod EngineSteps
 pub mod CutGoals
 pub mod TaskStops
 pub mod TaskRounds
+pub mod TaskResults

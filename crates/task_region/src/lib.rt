@@ -10,6 +10,7 @@ mod floor;
 pub mod laws;
 mod loading;
 mod parts;
+mod results;
 mod rounds;
 mod running;
 mod start;
