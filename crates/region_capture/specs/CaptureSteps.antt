@@ -39,6 +39,10 @@ pub record IsMarkedOver (st : StoreView) (mark : ℕ) (m : Moment) : Type 0 wher
 abbrev pub AreWrittenSince : StoreView → ℕ → List Binding → Type 0
 AreWrittenSince st mark bs = (m : Moment) → IsMarkedOver st mark m → ExtendsBy m.bound st.now.bound st.now.next (captured_bindings bs) × (m.next ≤ st.now.next)
 
+-- and of what was bound at the floor
+abbrev pub AreWrittenOverFloor : StoreView → List Binding → Type 0
+AreWrittenOverFloor st bs = ExtendsBy st.floor.bound st.now.bound st.now.next (captured_bindings bs)
+
 -- what is left at a position was written down, with the bindings since a mark
 pub record CapturesPosition (r : RegionView) (mark : ℕ) (p : Position) (old new : ItemLists) (a : CapturedAlternative) : Type 0 where
   pub items : HasItems new a.first (items_here r p)

@@ -19,3 +19,4 @@ mod writing;
 pub use captured::{Captured, CapturedAlternative, CapturedChoice, CapturedKind};
 pub use items::{CapturedItem, CapturedItems};
 pub use regions::capture;
+pub use writing::bindings_since_floor;

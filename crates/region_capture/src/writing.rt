@@ -9,7 +9,7 @@ ghost use Rattle.region_split.specs.Regions.{IsItemHere};
 ghost use Rattle.region_capture.specs.CapturedItems.{captured_item};
 ghost use Rattle.region_capture.specs.CapturedMeanings.{captured_bindings};
 ghost use Rattle.branch_bindings.specs.ExtensionLaws.{written_bindings};
-ghost use Rattle.region_capture.specs.CaptureSteps.{AreWrittenSince};
+ghost use Rattle.region_capture.specs.CaptureSteps.{AreWrittenOverFloor, AreWrittenSince};
 
 use crate::items::CapturedItem;
 use au_model::build::{atom, unary};
@@ -84,6 +84,17 @@ pub(crate) fn bindings_since(
     let _next = store.next();
     made_bindings_extend();
     let made = store.made_since(mark)?;
+    written_values(store, alloc, &made)
+}
+
+/// The bindings that were made since the store's floor.
+pub fn bindings_since_floor(store: &Store, alloc: Global) -> Result<Bindings, NoMemory>
+    ensures { IfOk result (AreWrittenOverFloor store.now) }
+{
+    // The proof reads off that the store is sound.
+    let _next = store.next();
+    made_bindings_extend();
+    let made = store.made_since_floor()?;
     written_values(store, alloc, &made)
 }
 
