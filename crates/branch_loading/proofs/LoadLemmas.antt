@@ -136,11 +136,14 @@ pub items_first : (rows : Rows) (a : Place) (places : List Place) → AreAllUp r
 items_first rows a places h = ap (λ ps. items_on (branching_at rows ps)) (first_place rows a places h).1
 
 -- all bindings can be made in a region with the branch's variables
-module _ (rows : Rows) (a : Place) (places : List Place) (own : ℕ) (f : RegionView) (loadable : HasLoadableBranch rows a) (leads : AreAllUp rows a places)
-    (part : IsQueryPart rows places own) (free : f.store.now.bound ≡ []) (next : f.store.now.next ≡ next_number (segments_at rows (a ∷ []))) where
+module _ (rows : Rows) (a : Place) (places : List Place) (own : ℕ) (f : RegionView) (settled : is_way_settled (branching_at rows places) ≡ true)
+    (leads : AreAllUp rows a places) (part : IsQueryPart rows places own) (free : f.store.now.bound ≡ [])
+    (next : f.store.now.next ≡ next_number (segments_at rows (a ∷ []))) where
+  next_is : f.store.now.next ≡ next_number (segments_on (branching_at rows places))
+  next_is = next ∙ sym (next_first rows a places leads)
+
   settled_all : are_bindings_settled f.store.now.next (bindings_on (segments_at rows (take own places))) ≡ true
-  settled_all = ap₂ are_bindings_settled (next ∙ sym (next_first rows a places leads)) (ap bindings_on (sym part))
-      ∙ settled_bindings (branching_at rows places) (loadable places leads).settled
+  settled_all = ap₂ are_bindings_settled next_is (ap bindings_on (sym part)) ∙ settled_bindings (branching_at rows places) settled
 
   none_made : IsMadeBy [] f.store.now.bound
   none_made = subst (IsMadeBy []) (sym free) nothing_made
@@ -148,9 +151,11 @@ module _ (rows : Rows) (a : Place) (places : List Place) (own : ℕ) (f : Region
   pub can_make_all : CanMake f (bindings_on (segments_at rows (take own places)))
   can_make_all = record { before = []; made = none_made; settled = settled_all }
 
-  pub all_made : (r : RegionView) → Makes f r (bindings_on (segments_at rows (take own places)))
-      → IsMadeBy (bindings_on (segments_at rows (take own places))) r.store.now.bound
-  all_made r makes = makes.made [] none_made settled_all
+  pub all_bound : (r : RegionView) → Makes f r (bindings_on (segments_at rows (take own places))) → IsBoundOnBranch (branching_at rows places) r.store.now
+  all_bound r makes = record {
+    bound = subst (λ segments. SameValues (bound_by segments) (Some r.store.now.bound)) (sym part) (makes.made [] none_made settled_all).unified;
+    next = makes.next ∙ next_is;
+  }
 
 -- all items can be deferred
 deferred_over : (places : List Place) (next : ℕ) → 0 < length places → (items : List BranchItem) → list_all (is_item_settled next) items ≡ true
@@ -167,25 +172,23 @@ deferred_over places next some (Remove n ∷ items) h = (tt, deferred_over place
 deferred_over places next some (End ball ∷ items) h = false_true h
 
 pub all_deferred_over : (rows : Rows) (a : Place) (places : List Place) (next : ℕ) → HasLoadableBranch rows a → AreAllUp rows a places
-    → next ≡ next_number (segments_at rows (a ∷ []))
+    → next ≡ next_number (segments_on (branching_at rows places))
     → Each (IsDeferredOver next (length places)) (items_over places (branch_items (slice_get (body_at rows a).branches a.index)))
 all_deferred_over rows a places next loadable leads e =
     let k = first_place rows a places leads in
     let some : 0 < length places = subst (λ (ps : List Place). 0 < length ps) (sym k.1) (omega arith) in
     deferred_over places next some (branch_items (slice_get (body_at rows a).branches a.index))
-    (ap₂ (λ n items. list_all (is_item_settled n) items) (e ∙ sym (next_first rows a places leads)) (sym (items_first rows a places leads))
+    (ap₂ (λ n items. list_all (is_item_settled n) items) e (sym (items_first rows a places leads))
     ∙ settled_items (branching_at rows places) (loadable places leads).settled)
 
 -- what was made of a place's branch in a region, before its floor is laid
-pub record IsPrepared (rows : Rows) (a : Place) (places : List Place) (own : ℕ) (r : RegionView) (items : List (Item ℕ)) : Type 0 where
+pub record IsPrepared (rows : Rows) (a : Place) (places : List Place) (r : RegionView) (items : List (Item ℕ)) : Type 0 where
   pub leads : AreAllUp rows a places
-  pub part : IsQueryPart rows places own
-  pub made : IsMadeBy (bindings_on (segments_at rows (take own places))) r.store.now.bound
-  pub next : r.store.now.next ≡ next_number (segments_at rows (a ∷ []))
+  pub bound : IsBoundOnBranch (branching_at rows places) r.store.now
   pub items_are : items ≡ items_over places (branch_items (slice_get (body_at rows a).branches a.index))
 
-module _ (nodes : NodesView) (a : Place) (places : List Place) (own : ℕ) (r : RegionView) (items : List (Item ℕ)) (t : TaskView)
-    (loadable : HasLoadableBranch nodes.rows a) (prepared : IsPrepared nodes.rows a places own r items) (starts : StartsTask r (length places) items t) where
+module _ (nodes : NodesView) (a : Place) (places : List Place) (r : RegionView) (items : List (Item ℕ)) (t : TaskView)
+    (loadable : HasLoadableBranch nodes.rows a) (prepared : IsPrepared nodes.rows a places r items) (starts : StartsTask r (length places) items t) where
   module _ (job : Job) (read : Reading) (v : Level) (up : List Level) (was : Status) (way : Branching) (at : place_at v ≡ a)
       (stands : IsTableOf nodes read (plug (v ∷ up) was)) (on : IsWayTo nodes.rows (v ∷ up) way) where
     leads_here : AreAllUp nodes.rows (place_at v) places
@@ -201,8 +204,7 @@ module _ (nodes : NodesView) (a : Place) (places : List Place) (own : ℕ) (r : 
     can = subst CanBeLoaded way_is (loadable places prepared.leads)
 
     unified : SameValues (bound_by (segments_on way)) (Some r.store.now.bound)
-    unified =
-        subst (λ segments. SameValues (bound_by segments) (Some r.store.now.bound)) (sym prepared.part ∙ ap segments_on way_is) prepared.made.unified
+    unified = subst (λ w. SameValues (bound_by (segments_on w)) (Some r.store.now.bound)) way_is prepared.bound.bound
 
     left : Continuation ℕ
     left = by_heights (v ∷ up) (continuation_on job way)
@@ -227,7 +229,7 @@ module _ (nodes : NodesView) (a : Place) (places : List Place) (own : ℕ) (r : 
 
     next_left : left.next ≡ r.store.now.next
     unfolding left
-    next_left = ap (λ w. next_number (segments_on w)) (sym way_is) ∙ (next_first nodes.rows a places prepared.leads ∙ sym prepared.next)
+    next_left = ap (λ w. next_number (segments_on w)) (sym way_is) ∙ sym prepared.bound.next
 
     stands_there : (clauses : List Clause) → StandsAfter (run_on_branch clauses (v ∷ up) job way) 0 (task_stack (named_of (query_on job way)) t)
     unfolding left

@@ -1,5 +1,5 @@
 -- The region of a task that is loaded from the tree.
-use Rattle.std.specs.Prelude.{◌≡◌, ◌==◌, ℕ, Bool, true, not, List, [], ◌∷◌, Some, IsSome}
+use Rattle.std.specs.Prelude.{◌≡◌, ◌==◌, ℕ, Bool, true, not, List, [], ◌∷◌, length, Some, IsSome}
 use Rattle.au_model.specs.Terms.MostGeneral.{SameValues}
 use Rattle.run_model.specs.Machine.Entries.{PlainEntry}
 use Rattle.run_model.specs.Machine.Items.{Continuation}
@@ -8,6 +8,7 @@ use Rattle.run_model.specs.Programs.Jobs.{Job}
 use Rattle.cell_store.specs.StoreView.{Moment}
 use Rattle.region_floor.specs.Deferred.{all_deferred}
 use Rattle.region_floor.specs.RegionRuns.{RegionRun, by_heights}
+use Rattle.region_split.specs.Regions.{RegionView}
 use Rattle.region_split.specs.Texts.{TextView}
 use Rattle.task_region.specs.TaskStandings.{StandsOnRun}
 use Rattle.task_region.specs.TaskViews.{TaskView}
@@ -64,6 +65,12 @@ StandsAtStart nodes a clauses t =
 pub record IsBoundOnBranch (way : Branching) (m : Moment) : Type 0 where
   pub bound : SameValues (bound_by (segments_on way)) (Some m.bound)
   pub next : m.next ≡ next_number (segments_on way)
+
+-- a region has this text, no choice point, and what is bound at the places up a branch
+pub record IsBoundOver (rows : Rows) (places : List Place) (text : TextView) (r : RegionView) : Type 0 where
+  pub bound : IsBoundOnBranch (branching_at rows places) r.store.now
+  pub text_is : r.text ≡ text
+  pub no_choice : r.choices ≡ []
 
 -- of each such tree, the floor of the task's store is what is bound on the branch of its alternative
 abbrev pub StartsOnBranch : NodesView → Place → TaskView → Type 0

@@ -12,5 +12,5 @@ pub mod laws;
 mod load;
 mod places;
 
-pub use load::load_task;
+pub use load::{bound_region, load_task};
 pub use places::places_up;

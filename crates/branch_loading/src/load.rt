@@ -1,13 +1,13 @@
 //! A task, loaded from the tree.
-ghost use Rattle.std.specs.Prelude.{◌≡◌, ◌<◌, ◌^◌, IfOk, IsSome, length, map, slice_get};
+ghost use Rattle.std.specs.Prelude.{◌≡◌, ◌<◌, ◌^◌, true, IfOk, IsSome, length, map, slice_get};
 ghost use Rattle.std.specs.Arc.{arc_value};
 ghost use Rattle.task_region.specs.DeferredItems.{item_of};
 ghost use Rattle.tree_model.specs.EventViews.{place_view};
 ghost use Rattle.tree_nodes.specs.Rows.{row_of_node};
-ghost use Rattle.branch_reading.specs.SettledWays.{branch_items};
-ghost use Rattle.branch_loading.specs.PlacesUp.{AreFallingPlaces, body_at};
+ghost use Rattle.branch_reading.specs.SettledWays.{branch_items, is_way_settled};
+ghost use Rattle.branch_loading.specs.PlacesUp.{AreAllUp, AreFallingPlaces, body_at, branching_at};
 ghost use Rattle.branch_loading.specs.ScopeHeights.{items_over};
-ghost use Rattle.branch_loading.specs.TaskLoads.{HasLoadableBranch, LoadsTask};
+ghost use Rattle.branch_loading.specs.TaskLoads.{HasLoadableBranch, IsBoundOver, LoadsTask};
 
 use crate::bindings::{bind_way, next_at};
 use crate::items::deferred_items;
@@ -37,13 +37,30 @@ pub fn load_task(
         return Err(NoMemory);
     };
     let deferred = items_at(nodes, at, alloc, &places)?;
+    let region = bound_region(nodes, at, &places, alloc, text)?;
+    let task = TaskRegion::new(region, floor, deferred)?;
+    Ok(task)
+}
+
+/// A region without choice points in which what is bound at the places up the branch of an alternative is bound.
+pub fn bound_region(
+    nodes: &Nodes,
+    at: AltRef,
+    places: &[AltRef],
+    alloc: Global,
+    text: Arc<Text>,
+) -> Result<Region, NoMemory>
+    requires there { IsSome (row_of_node nodes.now.rows at.node) }
+    requires up { AreAllUp nodes.now.rows (place_view at) (map place_view places.now) }
+    requires settled { is_way_settled (branching_at nodes.now.rows (map place_view places.now)) ≡ true }
+    ensures { IfOk result (IsBoundOver nodes.now.rows (map place_view places.now) (arc_value text)) }
+{
     let next = next_at(nodes, at)?;
-    let own = query_part(nodes, &places);
+    let own = query_part(nodes, places);
     let mut region = Region::new(alloc, text)?;
     region.fresh(next)?;
     bind_way(&mut region, nodes, &places[..own])?;
-    let task = TaskRegion::new(region, floor, deferred)?;
-    Ok(task)
+    Ok(region)
 }
 
 // What an alternative has left to do.
