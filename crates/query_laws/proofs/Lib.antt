@@ -1,0 +1,5 @@
+mod QueryCountLemmas
+mod QueryClosingLemmas
+mod QueryBallLemmas
+mod QueryEventLemmas
+mod QueryHistoryLemmas
