@@ -1,5 +1,5 @@
 -- Each event keeps the count of queries.
-use Rattle.std.proofs.Common.{◌≡◌, ℕ, zero, suc, ◌+◌, ◌-◌, ◌==◌, Bool, true, false, cond, List, [], ◌∷◌, map, length, take, drop, Option}
+use Rattle.std.proofs.Common.{◌≡◌, ◌⊎◌, inl, inr, ℕ, zero, suc, ◌+◌, ◌-◌, ◌==◌, Bool, true, false, cond, List, [], ◌∷◌, map, length, take, drop, Option}
 use Rattle.std.proofs.Common.{Some, None, refl, sym, ap, ◌∙◌, subst, arith}
 use Rattle.std.specs.Prelude.{not, is_none, nat_lt}
 use Rattle.au_term.specs.Term.{Term}
@@ -40,7 +40,7 @@ use Rattle.interleaving.proofs.ContextLemmas.{IsAround}
 use Rattle.interleaving.proofs.LegalLemmas.{awake_entry, end_rests}
 use Rattle.interleaving.proofs.OpenSpotLemmas.{IsOpenSpot, placed_at, claimable_open, resumable_open, taken_at_open}
 use Rattle.au_term.proofs.LogicLemmas.{false_true, and-right}
-use Rattle.query_laws.specs.QueriesCounted.{one_for, queries_among, queries_below, queries_above, CountsQueries}
+use Rattle.query_laws.specs.QueriesCounted.{one_for, queries_among, queries_below, queries_above, CountsQueries, TakesEnd}
 use Rattle.query_laws.proofs.QueryCountLemmas.{NoneBeside, placed_queries, none_beside}
 use Rattle.query_laws.proofs.QueryClosingLemmas.{closing_queries, FallsWithin, ball_queries}
 use Rattle.query_laws.proofs.QueryBallLemmas.{ball_within}
@@ -195,6 +195,17 @@ module _ (t : TreeState) (s : Spot) (last : IsLastQuery (plug (levels_of s) (Pen
   prune_kept clauses (CatchEntry c r f) = (refl, refl)
   prune_kept clauses (FindallEntry results l f) = (refl, refl)
 
+  -- the end of a query
+  opens_next : (job : Job) (queries : List Query) → t.queries ≡ queries → CountsQueries job t → CountsQueries job (query_opens s queries t)
+  opens_next job [] e k q further z = let both : [] ≡ q ∷ further = sym e ∙ z in let no_way : ⊥ = cc in absurd no_way
+  opens_next job (p ∷ ps) e k q further z =
+      let h : queries_below (plug (spending 1 (levels_of s)) (Inner (opened_node t.next p))) ≡ queries_above (levels_of s) + 1 =
+      placed_queries (spending 1 (levels_of s)) (Inner (opened_node t.next p)) beside in
+      let o = opened_above in
+      let one : queries_below (plug (spending 1 (levels_of s)) (Inner (opened_node t.next p))) ≡ suc (queries_below t.root) = omega
+      (arith, h, o) in
+      subst (λ n. drop n job.queries ≡ q ∷ further) (sym one) (one_further (queries_below t.root) job.queries p ps (k p ps e) ∙ z)
+
   -- what closes, below the goals of a query
   module _ (around : IsAround (levels_of s) IsOpen) where
     closed_kept : under_query (way_of (levels_of s)) ≡ true → (c : Credit) → SameQueries t (closed_with s c t)
@@ -207,31 +218,20 @@ module _ (t : TreeState) (s : Spot) (last : IsLastQuery (plug (levels_of s) (Pen
         let k = no_entry_queries Ready named in
         (refl, put_there 1 (Inner (Numbered t.next ChoiceNode (entry_alternatives Ready named))) (omega (arith, k)))
 
-    -- the end of a query
-    opens_next : (job : Job) (queries : List Query) → t.queries ≡ queries → CountsQueries job t → CountsQueries job (query_opens s queries t)
-    opens_next job [] e k q further z = let both : [] ≡ q ∷ further = sym e ∙ z in let no_way : ⊥ = cc in absurd no_way
-    opens_next job (p ∷ ps) e k q further z =
-        let h : queries_below (plug (spending 1 (levels_of s)) (Inner (opened_node t.next p))) ≡ queries_above (levels_of s) + 1 =
-        placed_queries (spending 1 (levels_of s)) (Inner (opened_node t.next p)) beside in
-        let o = opened_above in
-        let one : queries_below (plug (spending 1 (levels_of s)) (Inner (opened_node t.next p))) ≡ suc (queries_below t.root) = omega
-        (arith, h, o) in
-        subst (λ n. drop n job.queries ≡ q ∷ further) (sym one) (one_further (queries_below t.root) job.queries p ps (k p ps e) ∙ z)
-
-    -- what is taken at the front closes below a query's goals, and its ball lands within a query
+    -- what is taken at the front of a query's goals closes there, and its ball lands within the query
     abbrev IsWithin : Taken → Type 0
     IsWithin (Continues es) = under_query (way_of (levels_of s)) ≡ true
     IsWithin Answered = under_query (way_of (levels_of s)) ≡ true
     IsWithin (Raises es) = FallsWithin (ball_scope (levels_of s) es) (levels_of s)
     IsWithin (Halts k) = Unit {0}
-    IsWithin QueryEnds = Unit {0}
+    IsWithin QueryEnds = ⊥
 
-    front_counts : (job : Job) (taken : Taken) → IsWithin taken → CountsQueries job t → CountsQueries job (front_taken s taken t)
-    front_counts job (Continues es) u k = counted_on job t (left_at s es t) (left_kept u es) k
-    front_counts job Answered u k = counted_on job t (front_taken s Answered t) (closed_kept u _) k
-    front_counts job (Raises es) f k = counted_on job t (ball_falls s es t) (fall_kept es f) k
-    front_counts job (Halts n) u k = counted_on job t (front_taken s (Halts n) t) (refl, put_there 1 (Pending s.hold s.entry) refl) k
-    front_counts job QueryEnds u k = opens_next job t.queries refl k
+    front_kept : (taken : Taken) → IsWithin taken → SameQueries t (front_taken s taken t)
+    front_kept (Continues es) u = left_kept u es
+    front_kept Answered u = closed_kept u _
+    front_kept (Raises es) f = fall_kept es f
+    front_kept (Halts n) u = (refl, put_there 1 (Pending s.hold s.entry) refl)
+    front_kept QueryEnds u = absurd u
 
     reply_within : under_query (way_of (levels_of s)) ≡ true → (r : Reply) (f : Continuation ℕ)
         → IsWithin (reply_taken r f (floor_of (levels_of s)))
@@ -258,14 +258,11 @@ module _ (t : TreeState) (s : Spot) (last : IsLastQuery (plug (levels_of s) (Pen
     item_within u clauses (CatchMark h ∷ items) f w = u
     item_within u clauses (CollectMark x h ∷ items) f w = u
 
-    front_within : (clauses : List Clause) (e : Entry) (w : World) → IsAwake e → IsOnWay (way_of (levels_of s)) e
-        → IsWithin (taken_at_front clauses (with_heights (levels_of s) e ∷ floor_of (levels_of s)) w).1
-    front_within clauses (PlainEntry f) w a i =
+    front_within : (clauses : List Clause) (f : Continuation ℕ) (w : World) → IsOnWay (way_of (levels_of s)) (PlainEntry f)
+        → IsWithin (taken_at_front clauses (with_heights (levels_of s) (PlainEntry f) ∷ floor_of (levels_of s)) w).1
+    front_within clauses f w i =
         let g : Continuation ℕ = renamed_continuation (height_of (levels_of s)) (λ n. height_of (levels_of s) n - 1) f in
         item_within i.asked clauses (without_marks g.items) g w
-    front_within clauses (EndEntry b) w a i = tt
-    front_within clauses (CatchEntry c r f) w a i = absurd a
-    front_within clauses (FindallEntry results l f) w a i = absurd a
 
 -- an end takes no private step: what a run closes is below the goals of a query
 abbrev ClosesEnd : (Option (List Entry) → Bool) → Type 0
@@ -291,7 +288,7 @@ at_taken t None allowed s e l = false_true l
 at_taken t (Some r) allowed s e l = let same : r ≡ s = cc in subst (λ x. allowed x ≡ true) same l
 
 -- the events
-module _ (job : Job) (t : TreeState) (h : IsLegalTree t) (counts : CountsQueries job t) where
+module _ (t : TreeState) (h : IsLegalTree t) where
   last_at : (s : Spot) → IsOpenSpot t.root s → IsLastQuery (plug (levels_of s) (Pending s.hold s.entry))
   last_at s o = subst IsLastQuery (sym o.inside) h.caught.last
 
@@ -306,41 +303,83 @@ module _ (job : Job) (t : TreeState) (h : IsLegalTree t) (counts : CountsQueries
       (run_asked closes t s s.entry k z (awake_entry s.hold s.entry o.opened p.entry.1) p.entry.0
       (at_taken t (taken_at w a t) (λ r. closes (run_of t r k)) s e l)) (c s))
 
-  allowed_counts : (e : Event) → is_allowed t e ≡ true → CountsQueries job (after_allowed t e)
+  -- what is taken at the front, by the entry that is out
+  abbrev moved : Spot → Entry → TreeState
+  moved s e = world_moved s (taken_at_front t.job.clauses (with_heights (levels_of s) e ∷ floor_of (levels_of s)) t.world) t
+
+  answer_kept : (w : ℕ) (a : Place) (s : Spot) → taken_at w a t ≡ Some s → (e : Entry) → s.entry ≡ e → IsAwake e
+      → IsOnWay (way_of (levels_of s)) e → SameQueries t (moved s e) ⊎ TakesEnd t (Answer w a false)
+  answer_kept w a s k (EndEntry b) e i j = inr
+      (record { worker = w; place = a; spot = s; ball = b; out = k; ends = e; is = refl })
+  answer_kept w a s k (CatchEntry c r f) e i j = absurd i
+  answer_kept w a s k (FindallEntry results l f) e i j = absurd i
+  answer_kept w a s k (PlainEntry f) e i j =
+      let o = taken_at_open w a t s k in
+      let p = placed_at t s h.sound o in
+      let r = taken_at_front t.job.clauses (with_heights (levels_of s) (PlainEntry f) ∷ floor_of (levels_of s)) t.world in
+      let new = record t { world = r.0 } in
+      inl (front_kept new s (last_at s o) o.inside p.around r.1
+      (front_within new s (last_at s o) o.inside p.around t.job.clauses f t.world j))
+
+  allowed_kept : (e : Event) → is_allowed t e ≡ true → SameQueries t (after_allowed t e) ⊎ TakesEnd t e
   unfolding gate_of
-  allowed_counts (Claim w a) l = counted_on job t (after_allowed t (Claim w a)) (where_kept t (claimable t) _ (λ s e.
+  allowed_kept (Claim w a) l = inl (where_kept t (claimable t) _ (λ s e.
       let o = claimable_open t s e in
-      held t s (last_at s o) o.inside (TakenBy w))) counts
-  allowed_counts (Resume w a) l = counted_on job t (after_allowed t (Resume w a)) (where_kept t (resumable t) _ (λ s e.
+      held t s (last_at s o) o.inside (TakenBy w)))
+  allowed_kept (Resume w a) l = inl (where_kept t (resumable t) _ (λ s e.
       let o = resumable_open t s e in
-      held t s (last_at s o) o.inside (TakenBy w))) counts
-  allowed_counts (Suspend w a frozen) l = counted_on job t (after_allowed t (Suspend w a frozen)) (where_kept t (taken_at w a t) _ (λ s e.
+      held t s (last_at s o) o.inside (TakenBy w)))
+  allowed_kept (Suspend w a frozen) l = inl (where_kept t (taken_at w a t) _ (λ s e.
       let o = taken_at_open w a t s e in
-      held t s (last_at s o) o.inside _)) counts
-  allowed_counts (Nodes w a k sizes) l = counted_on job t (after_allowed t (Nodes w a k sizes)) (where_kept t (taken_at w a t) _ (λ s e.
+      held t s (last_at s o) o.inside _))
+  allowed_kept (Nodes w a k sizes) l = inl (where_kept t (taken_at w a t) _ (λ s e.
       let o = taken_at_open w a t s e in
-      published t s (last_at s o) o.inside k sizes (run_of t s k))) counts
-  allowed_counts (Empty w a k) l = counted_on job t (after_allowed t (Empty w a k)) (run_closes w a k run_is_empty (λ s. credit_of k) (refl, λ b. refl) l) counts
-  allowed_counts (Collected w a k) l = counted_on job t (after_allowed t (Collected w a k)) (run_closes w a k run_gives_result _ (refl, λ b. refl) l) counts
-  allowed_counts (Lost w a) l = counts
-  allowed_counts (Stop w) l = counts
-  allowed_counts (Prune w a) l = counted_on job t (after_allowed t (Prune w a)) (where_kept t (taken_at w a t) _ (λ s e.
+      published t s (last_at s o) o.inside k sizes (run_of t s k)))
+  allowed_kept (Empty w a k) l = inl (run_closes w a k run_is_empty (λ s. credit_of k) (refl, λ b. refl) l)
+  allowed_kept (Collected w a k) l = inl (run_closes w a k run_gives_result _ (refl, λ b. refl) l)
+  allowed_kept (Lost w a) l = inl (refl, refl)
+  allowed_kept (Stop w) l = inl (refl, refl)
+  allowed_kept (Prune w a) l = inl (where_kept t (taken_at w a t) _ (λ s e.
       let o = taken_at_open w a t s e in
-      prune_kept t s (last_at s o) o.inside t.job.clauses (with_heights (levels_of s) s.entry))) counts
-  allowed_counts (Answer w a frozen) l = go (taken_at w a t) refl
+      prune_kept t s (last_at s o) o.inside t.job.clauses (with_heights (levels_of s) s.entry)))
+  allowed_kept (Answer w a true) l = false_true l
+  allowed_kept (Answer w a false) l = go (taken_at w a t) refl
     where
       go : (o : Option Spot) → taken_at w a t ≡ o
-          → CountsQueries job (where_some o t (λ s. world_moved s (taken_at_front t.job.clauses (spot_stack s) t.world) t))
-      go None e = counts
+          → SameQueries t (where_some o t (λ s. world_moved s (taken_at_front t.job.clauses (spot_stack s) t.world) t))
+          ⊎ TakesEnd t (Answer w a false)
+      go None e = inl (refl, refl)
       go (Some s) e =
           let o = taken_at_open w a t s e in
           let p = placed_at t s h.sound o in
-          let r = taken_at_front t.job.clauses (spot_stack s) t.world in
-          let moved = record t { world = r.0 } in
-          front_counts moved s (last_at s o) o.inside p.around job r.1
-          (front_within moved s (last_at s o) o.inside p.around t.job.clauses s.entry t.world
-          (awake_entry s.hold s.entry o.opened p.entry.1) p.entry.0) counts
+          answer_kept w a s e s.entry refl (awake_entry s.hold s.entry o.opened p.entry.1) p.entry.0
 
-  pub event_counts : (e : Event) → is_legal t e ≡ true → CountsQueries job (after_event t e)
-  unfolding is_legal after_event
-  event_counts e l = allowed_counts e (and-right (is_none (ended t)) (is_allowed t e) (and-right (not t.stopped) _ l))
+  -- the end of a query
+  end_counts : (job : Job) (e : Event) → TakesEnd t e → CountsQueries job t → CountsQueries job (after_allowed t e)
+  end_counts job e k counts =
+      let s = k.spot in
+      let o = taken_at_open k.worker k.place t s k.out in
+      let new = record t { world = (taken_at_front t.job.clauses (EndEntry k.ball ∷ floor_of (levels_of s)) t.world).0 } in
+      subst (λ x. CountsQueries job (after_allowed t x)) (sym k.is)
+      (subst (λ r. CountsQueries job (where_some r t (λ s. world_moved s (taken_at_front t.job.clauses (spot_stack s) t.world) t))) (sym k.out)
+      (subst (λ x. CountsQueries job (moved s x)) (sym k.ends) (opens_next new s (last_at s o) o.inside job new.queries refl counts)))
+
+  event_kept : (e : Event) → is_legal t e ≡ true → SameQueries t (after_allowed t e) ⊎ TakesEnd t e
+  unfolding is_legal
+  event_kept e l = allowed_kept e (and-right (is_none (ended t)) (is_allowed t e) (and-right (not t.stopped) _ l))
+
+  pub event_counts : (job : Job) → CountsQueries job t → (e : Event) → is_legal t e ≡ true → CountsQueries job (after_event t e)
+  unfolding after_event
+  event_counts job counts e l = go (event_kept e l)
+    where
+      go : SameQueries t (after_allowed t e) ⊎ TakesEnd t e → CountsQueries job (after_allowed t e)
+      go (inl k) = counted_on job t (after_allowed t e) k counts
+      go (inr k) = end_counts job e k counts
+
+  pub event_opens : (e : Event) → is_legal t e ≡ true → ((after_event t e).queries ≡ t.queries) ⊎ TakesEnd t e
+  unfolding after_event
+  event_opens e l = go (event_kept e l)
+    where
+      go : SameQueries t (after_allowed t e) ⊎ TakesEnd t e → ((after_allowed t e).queries ≡ t.queries) ⊎ TakesEnd t e
+      go (inl k) = inl k.0
+      go (inr k) = inr k

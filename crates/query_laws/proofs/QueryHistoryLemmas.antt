@@ -10,15 +10,18 @@ use Rattle.tree_model.specs.Histories.{after_events, are_legal, tree_after}
 use Rattle.tree_model.specs.CaughtTrees.{IsLastQuery}
 use Rattle.tree_model.specs.LegalTrees.{IsLegalTree, HistoriesKeepTrees}
 use Rattle.au_term.proofs.LogicLemmas.{and-left, and-right, and-both}
-use Rattle.query_laws.specs.QueriesCounted.{queries_below, CountsQueries, AllAreAbove, EventsCountQueries}
+use Rattle.query_laws.specs.QueriesCounted.{queries_below, CountsQueries, AllAreAbove, EndsOpenQueries, EventsCountQueries}
 use Rattle.query_laws.specs.QueriesCounted.{HistoriesCountQueries, NextIsTold}
-use Rattle.query_laws.proofs.QueryEventLemmas.{opened_above, event_counts}
+use Rattle.query_laws.proofs.QueryEventLemmas.{opened_above, event_counts, event_opens}
 
 pub all_above : AllAreAbove
 all_above t s h p = opened_above t s (subst IsLastQuery (sym p) h.caught.last) p
 
 pub events_count : EventsCountQueries
-events_count job t e h counts l = event_counts job t h counts e l
+events_count job t e h counts l = event_counts t h job counts e l
+
+pub ends_open : EndsOpenQueries
+ends_open t e h l = event_opens t h e l
 
 -- a front of a legal history is one
 legal_front : (t : TreeState) (pre post : List Event) → are_legal t (pre ++ post) ≡ true → are_legal t pre ≡ true
@@ -34,7 +37,7 @@ all_counted : (job : Job) (t : TreeState) (es : List Event)
 all_counted job t [] h l counts = counts
 all_counted job t (e ∷ es) h l counts =
     all_counted job (after_event t e) es (λ pre post q. h (e ∷ pre) post (ap (λ r. e ∷ r) q)) (and-right (is_legal t e) _ l)
-    (event_counts job t (h [] (e ∷ es) refl) counts e (and-left (is_legal t e) _ l))
+    (event_counts t (h [] (e ∷ es) refl) job counts e (and-left (is_legal t e) _ l))
 
 opening_counts : (job : Job) (budget window : ℕ) → CountsQueries job (opening_tree job budget window)
 opening_counts job budget window = go job.queries

@@ -1,13 +1,15 @@
 -- How many queries a tree has opened, and which are left.
-use Rattle.std.specs.Prelude.{◌≡◌, ◌≤◌, ℕ, ◌+◌, true, List, [], ◌∷◌, drop, Some, slice_get}
+use Rattle.std.specs.Prelude.{◌≡◌, ◌⊎◌, ◌≤◌, ℕ, ◌+◌, true, false, List, [], ◌∷◌, drop, Option, Some, slice_get}
+use Rattle.au_term.specs.Term.{Term}
 use Rattle.run_model.specs.Programs.Jobs.{Query, Job}
+use Rattle.run_model.specs.Machine.Entries.{EndEntry}
 use Rattle.tree_model.specs.Credits.{greatest}
 use Rattle.tree_model.specs.Nodes.{Kind, ChoiceNode, CatchNode, FindallNode, QueryNode, Node, Numbered, Alternatives, none, alternative}
 use Rattle.tree_model.specs.Nodes.{Status, Pending, Inner, Closed}
-use Rattle.tree_model.specs.Levels.{Level, plug, Spot, levels_of}
-use Rattle.tree_model.specs.Events.{Event}
+use Rattle.tree_model.specs.Levels.{Level, plug, Place, Spot, levels_of}
+use Rattle.tree_model.specs.Events.{Event, Answer}
 use Rattle.tree_model.specs.TreeStates.{TreeState}
-use Rattle.tree_model.specs.Legality.{is_legal}
+use Rattle.tree_model.specs.Legality.{taken_at, is_legal}
 use Rattle.tree_model.specs.Effects.{after_event}
 use Rattle.tree_model.specs.Histories.{tree_after, IsLegalHistory}
 use Rattle.tree_model.specs.LegalTrees.{IsLegalTree}
@@ -51,6 +53,20 @@ AllAreAbove = (t : TreeState) (s : Spot) → IsLegalTree t → IsPendingIn t s �
 abbrev pub EventsCountQueries : Type 0
 EventsCountQueries = (job : Job) (t : TreeState) (e : Event) → IsLegalTree t → CountsQueries job t → is_legal t e ≡ true
     → CountsQueries job (after_event t e)
+
+-- a worker takes the end of a query that is out to it
+pub record TakesEnd (t : TreeState) (e : Event) : Type 0 where
+  pub worker : ℕ
+  pub place : Place
+  pub spot : Spot
+  pub ball : Option Term
+  pub out : taken_at worker place t ≡ Some spot
+  pub ends : spot.entry ≡ EndEntry ball
+  pub is : e ≡ Answer worker place false
+
+-- no other event opens a query
+abbrev pub EndsOpenQueries : Type 0
+EndsOpenQueries = (t : TreeState) (e : Event) → IsLegalTree t → is_legal t e ≡ true → ((after_event t e).queries ≡ t.queries) ⊎ TakesEnd t e
 
 -- of every budget that a count can reach
 abbrev pub HistoriesCountQueries : Type 0

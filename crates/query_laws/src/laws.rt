@@ -1,11 +1,16 @@
 //! Laws of the queries of a tree: each function does nothing, and its contract is the law.
-ghost use Rattle.query_laws.specs.QueriesCounted.{AllAreAbove, EventsCountQueries, HistoriesCountQueries, NextIsTold};
+ghost use Rattle.query_laws.specs.QueriesCounted.{AllAreAbove, EndsOpenQueries, EventsCountQueries, HistoriesCountQueries, NextIsTold};
 
 use interleaving::laws::trees::events_keep_trees;
 
 /// All nodes of queries are on the way down to whatever is pending.
 pub fn queries_are_above()
     ensures { AllAreAbove }
+{}
+
+/// No event but the end of a query that is taken at the front opens a query.
+pub fn ends_open_queries()
+    ensures { EndsOpenQueries }
 {}
 
 /// Every event keeps that the queries which are left are those of the job after as many as the tree has nodes of queries; so
