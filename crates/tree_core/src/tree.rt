@@ -1,6 +1,7 @@
 //! Trees of jobs.
-ghost use Rattle.std.specs.Prelude.{◌≡◌, [], IfOk, IfSome};
+ghost use Rattle.std.specs.Prelude.{◌≡◌, ◌≤◌, [], IfOk, IfSome};
 ghost use Rattle.run_model.specs.Machine.Runs.{text_of, ending_of};
+ghost use Rattle.tree_model.specs.Credits.{greatest};
 ghost use Rattle.tree_model.specs.Events.{Stop};
 ghost use Rattle.tree_model.specs.LegalTrees.{IsLegalTree};
 ghost use Rattle.tree_model.specs.TreeStates.{ended, counts};
@@ -66,6 +67,7 @@ impl<J: JobBrand> Tree<J> {
     pub fn keeps_promises(&self)
         ensures promises { KeepsPromises self.now.history }
         ensures nodes { NodesStand self.now }
+        ensures countable { self.now.history.budget ≤ greatest }
     {
         promises_are_kept();
         // The proof reads the fields' invariant.

@@ -1,4 +1,5 @@
-use Rattle.std.proofs.Common.{subst}
+use Rattle.std.proofs.Common.{◌≤◌, subst}
+use Rattle.tree_model.specs.Credits.{greatest}
 use Rattle.tree_core.specs.Histories.{TreeView, NodesStand}
 use Rattle.tree_core.specs.KeptPromises.{KeepsPromises}
 use Rattle.tree_core.proofs.PromiseLemmas.{kept_promises}
@@ -14,3 +15,6 @@ pub returns-clause-nodes : goal.returns-clause-nodes
 returns-clause-nodes g c =
     subst NodesStand c.self.view_is
     (record { placed = c.self.invariant.follows.stands.placed; next = c.self.invariant.follows.stands.next })
+
+pub returns-clause-countable : goal.returns-clause-countable
+returns-clause-countable g c = subst (λ (v : TreeView). v.history.budget ≤ greatest) c.self.view_is c.self.invariant.countable
