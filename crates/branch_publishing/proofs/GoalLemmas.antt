@@ -54,7 +54,7 @@ item_more base next (Collect t c) le s = below_more base next _ le s
 item_more base next (Remove n) le s = refl
 item_more base next (End b) le s = s
 
-settled_more : (base next : ℕ) (xs : List BranchItem) → base ≤ next → list_all (is_item_settled base) xs ≡ true
+pub settled_more : (base next : ℕ) (xs : List BranchItem) → base ≤ next → list_all (is_item_settled base) xs ≡ true
     → list_all (is_item_settled next) xs ≡ true
 settled_more base next [] le s = refl
 settled_more base next (x ∷ xs) le s =

@@ -61,12 +61,12 @@ module _ (h : History) (w : ℕ) (a : Place) where
 
   -- but at a gate of the world
   module _ (s : Spot) (taken : taken_at w a t ≡ Some s) (gate : gate_of t s ≡ Some WorldGate) (going : is_going t ≡ true) (first : is_first_at a t ≡ true) where
-    allowed : is_allowed t (front_event w a) ≡ true
+    pub allowed : is_allowed t (front_event w a) ≡ true
     allowed =
         ap (λ (o : Option Spot). at_spot o (λ r. is_world_gate (gate_of t r) && is_spot_at a (leftmost t))) taken
         ∙ ap (λ g. is_world_gate g && is_spot_at a (leftmost t)) gate ∙ first
 
-    legal : is_legal t (front_event w a) ≡ true
+    pub legal : is_legal t (front_event w a) ≡ true
     legal = legal_is ∙ ap (λ (b : Bool). b && is_allowed t (front_event w a)) going ∙ allowed
 
     falls : (x : TreeState) (es : List Entry) → (ball_falls s es x).world ≡ x.world

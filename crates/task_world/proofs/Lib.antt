@@ -1,7 +1,7 @@
-mod SpotLemmas
-mod EventLemmas
+pub mod SpotLemmas
+pub mod EventLemmas
 mod BranchLemmas
-mod FrontLemmas
+pub mod FrontLemmas
 mod RemovalLemmas
 mod AnswerLemmas
 mod TopLemmas
