@@ -1,0 +1,3 @@
+mod GoalLemmas
+mod WayLemmas
+mod EndLemmas
