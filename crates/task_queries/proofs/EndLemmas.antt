@@ -41,7 +41,7 @@ use Rattle.task_world.specs.FrontSteps.{IsWorldAfter, front_event}
 use Rattle.task_world.specs.declared.step.FrontStep.TheVariants.{Done}
 use Rattle.task_world.proofs.EventLemmas.{allowed, legal, is_world_after}
 use Rattle.task_world.proofs.FrontLemmas.{spot}
-use Rattle.task_queries.specs.QueryEnds.{left_by}
+use Rattle.task_queries.specs.QueryEnds.{still_left}
 use Rattle.task_queries.proofs.WayLemmas.{queries_same}
 
 module _ (t : TreeState) (ball : Option Term) (s : Spot) (ends : s.entry ≡ EndEntry ball) where
@@ -124,7 +124,7 @@ module _ (h : History) (nodes : NodesView) (ball : Option Term) (w : ℕ) (a : P
         ∙ opens_queries s (record t { world = writes (end_line t.world.operators ball) t.world }) t.queries refl
 
     pub opened_left : (answer : Answering) (new : History) → answer ≡ answering_of (front_event w a) t → new ≡ where_legal (front_event w a) h
-        → (state_of new).queries ≡ left_by (Done answer) t.queries
+        → (state_of new).queries ≡ still_left (Done answer) t.queries
     opened_left answer new is noted =
         let o = spot (taken_at w a t) out in
         let gate = gate_is t ball o.0 (ends o.0 o.1) in
@@ -137,4 +137,4 @@ module _ (h : History) (nodes : NodesView) (ball : Option Term) (w : ℕ) (a : P
         ∙ ap (λ (b : Bool). (state_of (cond b (with_event (front_event w a) h) h)).queries) legal_is
         ∙ ap (λ (x : TreeState). x.queries) (after-last (opening_tree h.job h.budget h.window) h.events (front_event w a))
         ∙ after_end o.0 o.1
-        ∙ ap (λ r. left_by (Done r) t.queries) (sym took)
+        ∙ ap (λ r. still_left (Done r) t.queries) (sym took)

@@ -7,8 +7,8 @@ use Rattle.task_world.specs.declared.step.FrontStep.{FrontStep}
 use Rattle.task_world.specs.declared.step.FrontStep.TheVariants.{Done, Closes}
 
 -- of the queries that were left, those that are left after it
-abbrev pub left_by : FrontStep → List Query → List Query
-left_by (Done Taken) queries = queries_after queries
-left_by (Done NotLeftmost) queries = queries
-left_by (Done HasEnded) queries = queries
-left_by (Closes closing) queries = queries
+abbrev pub still_left : FrontStep → List Query → List Query
+still_left (Done Taken) queries = queries_after queries
+still_left (Done NotLeftmost) queries = queries
+still_left (Done HasEnded) queries = queries
+still_left (Closes closing) queries = queries

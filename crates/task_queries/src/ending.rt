@@ -8,7 +8,7 @@ ghost use Rattle.tree_model.specs.Legality.{taken_at};
 ghost use Rattle.tree_core.specs.Histories.{state_of};
 ghost use Rattle.task_world.specs.FrontSteps.{ComesAbout, IsBarredBy, IsWorldAfter};
 ghost use Rattle.worker_tasks.specs.OutTasks.{EndsQueryAt};
-ghost use Rattle.task_queries.specs.QueryEnds.{left_by};
+ghost use Rattle.task_queries.specs.QueryEnds.{still_left};
 
 use crate::goals::query_goals;
 use au_term::{FlatTerm, NoMemory};
@@ -40,7 +40,7 @@ pub fn end_query<J: JobBrand>(
     requires left { left.now ≡ (state_of tree.old.history).queries }
     requires world { world_meant world.old ≡ (state_of tree.old.history).world }
     ensures comes { IfOk result (ComesAbout tree.old tree.new worker (place_view at)) }
-    ensures left { IfOk result (λ step. (state_of tree.new.history).queries ≡ left_by step left.now) }
+    ensures left { IfOk result (λ step. (state_of tree.new.history).queries ≡ still_left step left.now) }
     ensures world { IfOk result (λ step. IsWorldAfter tree.old.history worker (place_view at) (world_meant world.new)) }
     ensures statics { world.new.database.statics ≡ world.old.database.statics }
     ensures err { OnErr result (tree.new.history ≡ tree.old.history) }
@@ -73,7 +73,7 @@ fn open_next<J: JobBrand>(
     requires next { slice_get (state_of tree.old.history).queries 0 ≡ Some next.now }
     requires world { world_meant world.old ≡ (state_of tree.old.history).world }
     ensures comes { IfOk result (ComesAbout tree.old tree.new worker (place_view at)) }
-    ensures left { IfOk result (λ step. (state_of tree.new.history).queries ≡ left_by step (state_of tree.old.history).queries) }
+    ensures left { IfOk result (λ step. (state_of tree.new.history).queries ≡ still_left step (state_of tree.old.history).queries) }
     ensures world { IfOk result (λ step. IsWorldAfter tree.old.history worker (place_view at) (world_meant world.new)) }
     ensures statics { world.new.database.statics ≡ world.old.database.statics }
     ensures err { OnErr result (tree.new.history ≡ tree.old.history) }
@@ -102,7 +102,7 @@ fn end_last<J: JobBrand>(
     requires last { (state_of tree.now.history).queries ≡ [] }
     requires world { world_meant world.old ≡ (state_of tree.now.history).world }
     ensures comes { IfOk result (ComesAbout tree.now tree.now worker (place_view at)) }
-    ensures left { IfOk result (λ step. (state_of tree.now.history).queries ≡ left_by step []) }
+    ensures left { IfOk result (λ step. (state_of tree.now.history).queries ≡ still_left step []) }
     ensures world { IfOk result (λ step. IsWorldAfter tree.now.history worker (place_view at) (world_meant world.new)) }
     ensures statics { world.new.database.statics ≡ world.old.database.statics }
 {
