@@ -1,0 +1,2 @@
+pub mod TaskEnds
+pub mod EndLaws
