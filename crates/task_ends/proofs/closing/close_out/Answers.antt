@@ -6,7 +6,6 @@ use Rattle.tree_nodes.specs.TreeTables.{NodesView}
 use Rattle.tree_closing.specs.Closings.{HasSleeper}
 use Rattle.tree_core.specs.Histories.{state_of}
 use Rattle.task_closing.specs.WokenBodies.{WakesWith}
-use Rattle.task_closing.specs.declared.woken.Woken.TheVariants.{Nothing, Body, OpenResults}
 use Rattle.task_ends.proofs.CloseLemmas.{cell_out, ends_as, wakes_open}
 use Rattle.task_ends.proofs.closing.close_out.Goals as goal
 
