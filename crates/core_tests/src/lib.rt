@@ -5,12 +5,8 @@
 #[cfg(test)]
 mod failing;
 #[cfg(test)]
-mod gated;
-#[cfg(test)]
 mod hand_runs;
 #[cfg(test)]
 mod loaded;
 #[cfg(test)]
 mod published;
-#[cfg(test)]
-mod tasks;

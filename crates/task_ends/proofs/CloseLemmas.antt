@@ -1,5 +1,5 @@
 -- What is out closes as its end tells.
-use Rattle.std.proofs.Common.{◌≡◌, ℕ, true, [], Option, Some, sym, ap, ◌∙◌, subst}
+use Rattle.std.proofs.Common.{◌≡◌, ℕ, true, [], Option, Some, sym, subst}
 use Rattle.std.specs.Prelude.{IsSome, is_some}
 use Rattle.au_term.specs.Term.{Term}
 use Rattle.run_model.specs.Programs.Jobs.{Job}
@@ -14,7 +14,6 @@ use Rattle.tree_model.specs.TreeStates.{TreeState}
 use Rattle.tree_nodes.specs.Bodies.{Body}
 use Rattle.tree_nodes.specs.Rows.{Rows, cell_at, credit_view}
 use Rattle.tree_nodes.specs.TreeTables.{NodesView, IsTableOf}
-use Rattle.tree_nodes.proofs.WalkLemmas.{cell_here}
 use Rattle.tree_closing.specs.Closings.{ComesToRest, HasSleeper, is_waking}
 use Rattle.tree_closing.specs.Sleeping.{IsBesideSleeper}
 use Rattle.tree_closing.specs.declared.way_up.Beside.{Beside}
@@ -43,9 +42,7 @@ module _ (job : Job) (nodes : NodesView) (t : TreeState) (w : ℕ) (a : Place) (
   there = out_at job nodes t w a s placed (spot_out (taken_at w a t) out).1
 
   pub cell_out : IsSome (cell_at nodes.rows a)
-  cell_out =
-      ap (λ (p : Place). is_some (cell_at nodes.rows p)) (sym there.at)
-      ∙ ap is_some (cell_here nodes (reading job) s.level s.above (Pending s.hold s.entry) there.table)
+  cell_out = there.cell_there
 
   module _ (k : ℕ) (e : TaskEnd) (collected : Option Term) (closing : Closing) (ends : EndsOut e collected w a k t)
       (rests : ComesToRest nodes a (record_credit k collected) (place_view closing.end) (credit_view closing.credit) closing.beside) where

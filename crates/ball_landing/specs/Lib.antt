@@ -1,0 +1,6 @@
+pub mod Landings
+pub mod BallsLand
+pub mod LandingBodies
+pub mod CopiesAgain
+pub mod TakenBalls
+pub mod FoundLandings
