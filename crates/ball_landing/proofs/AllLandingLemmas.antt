@@ -18,35 +18,35 @@ use Rattle.branch_reading.specs.NumberedReadings.{NumberedTreesAreSettled}
 use Rattle.branch_reading.specs.Readings.{reading}
 use Rattle.interleaving.proofs.EntryLemmas.{length-floor}
 use Rattle.branch_loading.specs.PlacesUp.{body_at, items_at_place}
-use Rattle.ball_landing.specs.BallsLand.{height_of_mark, IsMarkOf, LandsAt, BallsLand}
-use Rattle.ball_landing.specs.Landings.{first_catch, at_node, is_beside_sleeper, landing, way_beside}
+use Rattle.ball_landing.specs.BranchLandings.{height_of_mark, IsMarkOver, LeavesAt, BallsLandByNodes}
+use Rattle.ball_landing.specs.Landings.{innermost_catch, at_node, is_beside_sleeper, landing, way_beside}
 use Rattle.ball_landing.proofs.LandingLemmas.{lifted, none_takes, nothing_lands, passes, sleeper_lands}
 
 lands : NumberedTreesAreSettled → (job : Job) (nodes : NodesView) (levels : List Level) (status : Status) (ball : Term) (mark : Option ℕ) → IsTableOf nodes (reading job) (plug levels status)
-    → IsSound [] (plug levels status) → IsNumberedStatus (plug levels status) → IsMarkOf levels mark
-    → LandsAt job nodes.rows ball levels (landing nodes.rows ball mark (map place_at levels)) (unwound ball (height_of_mark levels mark) (floor_of levels))
+    → IsSound [] (plug levels status) → IsNumberedStatus (plug levels status) → IsMarkOver levels mark
+    → LeavesAt job nodes.rows ball levels (landing nodes.rows ball mark (map place_at levels)) (unwound ball (height_of_mark levels mark) (floor_of levels))
 lands settled job nodes [] status ball mark table sound numbered on = refl
 lands settled job nodes (v ∷ up) status ball None table sound numbered on = none_takes ball None (floor_of (v ∷ up)) tt
 lands settled job nodes (v ∷ up) status ball (Some s) table sound numbered on =
     by_node (v.number == s) refl on (λ k h. lands settled job nodes up (Inner (level_node v status)) ball k table sound numbered h)
   where
     Rest : Type 0
-    Rest = (k : Option ℕ) → IsMarkOf up k → LandsAt job nodes.rows ball up (landing nodes.rows ball k (map place_at up)) (unwound ball (height_of_mark up k) (floor_of up))
+    Rest = (k : Option ℕ) → IsMarkOver up k → LeavesAt job nodes.rows ball up (landing nodes.rows ball k (map place_at up)) (unwound ball (height_of_mark up k) (floor_of up))
 
     here_lands : Bool → List Place
     here_lands asleep =
         cond asleep
         (at_node (body_at nodes.rows (place_at v)).kind (way_beside nodes.rows (place_at v) (map place_at up)) ball (place_at v ∷ map place_at up)
-        (landing nodes.rows ball (first_catch (items_at_place nodes.rows (right_of (place_at v)))) (map place_at up)))
+        (landing nodes.rows ball (innermost_catch (items_at_place nodes.rows (right_of (place_at v)))) (map place_at up)))
         []
 
     Goal : Bool → Type 0
-    Goal t = LandsAt job nodes.rows ball (v ∷ up)
+    Goal t = LeavesAt job nodes.rows ball (v ∷ up)
         (cond t (here_lands (is_beside_sleeper nodes.rows (place_at v))) (landing nodes.rows ball (Some s) (map place_at up)))
         (unwound ball (Some (cond t (suc (length up)) (height_of up s) - 1)) (floor_of (v ∷ up)))
 
     by_sleeper : (asleep : Bool) → is_beside_sleeper nodes.rows (place_at v) ≡ asleep → Rest
-        → LandsAt job nodes.rows ball (v ∷ up) (here_lands asleep) (unwound ball (Some (suc (length up) - 1)) (floor_of (v ∷ up)))
+        → LeavesAt job nodes.rows ball (v ∷ up) (here_lands asleep) (unwound ball (Some (suc (length up) - 1)) (floor_of (v ∷ up)))
     by_sleeper false e rest = nothing_lands settled job nodes ball v up status table sound numbered (suc (length up) - 1) (omega arith) e
     by_sleeper true e rest = sleeper_lands settled job nodes ball v up status table sound numbered e (suc (length up) - 1) (omega arith) rest
 
@@ -58,9 +58,9 @@ lands settled job nodes (v ∷ up) status ball (Some s) table sound numbered on 
         let some = h.some in
         let n = length-floor up in
         let other : is_height (Some (height_of up s - 1)) (length (floor_of up)) ≡ false = not_equal (height_of up s - 1) (length (floor_of up)) (omega (arith, low, some, n)) in
-        subst (LandsAt job nodes.rows ball (v ∷ up) (landing nodes.rows ball (Some s) (map place_at up)))
+        subst (LeavesAt job nodes.rows ball (v ∷ up) (landing nodes.rows ball (Some s) (map place_at up)))
         (sym (passes ball (Some (height_of up s - 1)) (with_heights up (right_entry v.right)) (floor_of up) other))
         (lifted job nodes.rows ball v up (landing nodes.rows ball (Some s) (map place_at up)) (unwound ball (Some (height_of up s - 1)) (floor_of up)) (rest (Some s) k))
 
-pub balls_land : NumberedTreesAreSettled → BallsLand
+pub balls_land : NumberedTreesAreSettled → BallsLandByNodes
 balls_land settled job nodes levels status ball mark table sound numbered on = lands settled job nodes levels status ball mark table sound numbered on

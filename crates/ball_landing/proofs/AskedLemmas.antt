@@ -18,16 +18,17 @@ use Rattle.region_split.specs.Regions.{RegionView}
 use Rattle.region_split.specs.Texts.{TextView}
 use Rattle.tree_model.specs.Levels.{Place}
 use Rattle.tree_nodes.specs.Bodies.{Body, BodyKind, ChoiceBody, CatchBody, Branching}
-use Rattle.tree_nodes.specs.Rows.{AlternativeCell, StoredNode, Rows, alternatives_at, row_of_node}
+use Rattle.tree_nodes.specs.Rows.{StoredNode, Rows, alternatives_at, row_of_node}
 use Rattle.tree_nodes.specs.TreeTables.{stored_body}
-use Rattle.tree_closing.specs.Sleeping.{is_asleep_at, right_of}
+use Rattle.tree_closing.specs.Sleeping.{right_of}
 use Rattle.branch_reading.specs.BranchSegments.{bound_by, next_number, segments_on}
 use Rattle.branch_reading.specs.SettledWays.{is_branch_settled, is_guard_settled, is_item_settled, is_term_below, is_way_settled, items_on}
 use Rattle.branch_loading.specs.PlacesUp.{missing_body, body_at}
 use Rattle.branch_loading.specs.TaskLoads.{IsBoundOver}
+use Rattle.task_closing.proofs.WokenLemmas.{second_within}
 use Rattle.ball_landing.specs.Landings.{IsReadableBeside, PassesOn, bound_on, is_beside_sleeper, taken_on, way_beside}
 use Rattle.ball_landing.specs.LandingBodies.{IsRecoveryBody, body_with, node_above}
-use Rattle.ball_landing.specs.TakenBalls.{LeadsToTaken, taken_at}
+use Rattle.ball_landing.specs.TakenBalls.{LeadsToTaken, taken_over}
 use Rattle.ball_landing.proofs.RecoveryLemmas.{values_same}
 
 pub stored_is : (o : Option StoredNode) (b : Body) → option_map (λ (r : StoredNode). r.body) o ≡ Some b → stored_body missing_body o ≡ b
@@ -67,11 +68,11 @@ module _ (rows : Rows) (p : Place) (above : List Place) (body : Body) (catcher r
   value_is : (n : ℕ) → value_of (bound_on way) n ≡ value_of region.store.now.bound n
   value_is = values_same (bound_by (segments_on way)) region.store.now.bound bound.bound.bound
 
-  asked_alike : (ball : Term) → taken_on way catcher ball ≡ taken_at region.store.now catcher ball
+  asked_alike : (ball : Term) → taken_on way catcher ball ≡ taken_over region.store.now catcher ball
   asked_alike ball =
       ap₂ (λ t n. unifier ((t, copied ball n) ∷ [])) (apply-same (value_of (bound_on way)) (value_of region.store.now.bound) value_is catcher) (sym next_is)
 
-  pub passes_on : (ball : Term) → taken_at region.store.now catcher ball ≡ None → PassesOn rows p above ball
+  pub passes_on : (ball : Term) → taken_over region.store.now catcher ball ≡ None → PassesOn rows p above ball
   passes_on ball none c r also is =
       let same : CatchBody c r ≡ CatchBody catcher recovery = sym is ∙ kind_there in
       let catcher_same : c ≡ catcher = cc same in
@@ -98,15 +99,10 @@ module _ (rows : Rows) (p : Place) (above : List Place) (body : Body) (catcher r
   }
 
 -- the branch of what sleeps is there
-two_within : (cells : List (ℕ × AlternativeCell)) → is_asleep_at (slice_get cells 1) ≡ true → 1 < length cells
-two_within [] h = absurd (cc h)
-two_within (x ∷ []) h = absurd (cc h)
-two_within (x ∷ y ∷ cells) h = omega arith
-
 pub second_there : (rows : Rows) (p : Place) (branches : List Branch) → is_beside_sleeper rows p ≡ true → length (alternatives_at (row_of_node rows p.node)) ≤ length branches
     → 1 < length branches
 second_there rows p branches asleep many =
-    let least = two_within (alternatives_at (row_of_node rows p.node)) (both (p.index == 0) _ asleep).1 in omega (arith, least, many)
+    let least = second_within (alternatives_at (row_of_node rows p.node)) (both (p.index == 0) _ asleep).1 in omega (arith, least, many)
 
 -- a body of one branch
 abbrev made_of : Segment → List Branch → BodyKind → Body

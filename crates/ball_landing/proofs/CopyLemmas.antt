@@ -3,9 +3,9 @@ use Rattle.std.proofs.Common.{◌≡◌, ℕ, zero, suc, ◌+◌, ◌<◌, ◌�
 use Rattle.std.proofs.lemmas.Bool.{eqb-true}
 use Rattle.std.proofs.lemmas.Bool.Decides.{nat_tests}
 use Rattle.std.specs.List.{list_any}
-use Rattle.au_term.proofs.LogicLemmas.{not_equal, number_same}
+use Rattle.au_term.proofs.LogicLemmas.{none_true, not_equal, number_same}
 use Rattle.au_term.specs.Term.{Term, VarTerm, IntTerm, AtomTerm, Compound, Terms, end, more}
-use Rattle.au_model.proofs.ApplyLemmas.{apply-apply, apply-same}
+use Rattle.au_model.proofs.ApplyLemmas.{apply-apply, apply-same, or_left, or_right}
 use Rattle.au_model.specs.Terms.Copies.{noted, seen_in, seen_in_all, place_of, renamed, copied}
 use Rattle.au_model.specs.Terms.Substitutions.{apply, apply_all}
 use Rattle.ball_landing.specs.CopiesAgain.{CopiesAreAlike}
@@ -37,32 +37,20 @@ any_append i (x ∷ xs) k = by_test (x == i) (any_append i xs k)
     by_test true h = refl
     by_test false h = h
 
-or_true : (a b : Bool) → b ≡ true → (a || b) ≡ true
-or_true true b h = refl
-or_true false b h = h
-
-or_first : (a b : Bool) → a ≡ true → (a || b) ≡ true
-or_first true b h = refl
-or_first false b h = absurd (cc h)
-
-or_none : (a b : Bool) → a ≡ false → b ≡ false → (a || b) ≡ false
-or_none true b h k = absurd (cc h)
-or_none false b h k = k
-
 in_up_to : (k i : ℕ) → i < k → list_any (λ m. m == i) (up_to k) ≡ true
 unfolding up_to
 in_up_to zero i h = absurd (omega (arith, h))
 in_up_to (suc k) i h = any_append i (up_to k) k ∙ by_test (k == i) refl (in_up_to k i)
   where
     by_test : (b : Bool) → (k == i) ≡ b → (i < k → list_any (λ m. m == i) (up_to k) ≡ true) → (list_any (λ m. m == i) (up_to k) || (k == i)) ≡ true
-    by_test true e f = or_true (list_any (λ m. m == i) (up_to k)) (k == i) e
-    by_test false e f = let low : i < k = grind (arith, nat_tests, e, h) in or_first (list_any (λ m. m == i) (up_to k)) (k == i) (f low)
+    by_test true e f = or_right (list_any (λ m. m == i) (up_to k)) (k == i) e
+    by_test false e f = let low : i < k = grind (arith, nat_tests, e, h) in or_left (list_any (λ m. m == i) (up_to k)) (k == i) (f low)
 
 not_in_up_to : (k i : ℕ) → k ≤ i → list_any (λ m. m == i) (up_to k) ≡ false
 unfolding up_to
 not_in_up_to zero i h = refl
 not_in_up_to (suc k) i h =
-    any_append i (up_to k) k ∙ or_none (list_any (λ m. m == i) (up_to k)) (k == i) (not_in_up_to k i (omega (arith, h))) (not_equal k i (omega (arith, h)))
+    any_append i (up_to k) k ∙ none_true (list_any (λ m. m == i) (up_to k)) (k == i) (not_in_up_to k i (omega (arith, h))) (not_equal k i (omega (arith, h)))
 
 -- places before and behind the end of a list
 place_in : (xs ys : List ℕ) (i : ℕ) → list_any (λ m. m == i) xs ≡ true → place_of (xs ++ ys) i ≡ place_of xs i

@@ -18,8 +18,8 @@ use Rattle.branch_reading.specs.Readings.{reading}
 use Rattle.interleaving.proofs.EntryLemmas.{length-floor}
 use Rattle.branch_loading.specs.PlacesUp.{missing_body}
 use Rattle.ball_landing.specs.Landings.{landing}
-use Rattle.ball_landing.specs.BallsLand.{LandsAt}
-use Rattle.ball_landing.specs.LandingBodies.{query_or, query_up, IsEndBody, IsLanding, left_by_ball, LandingsRead, ReadsAsLanded}
+use Rattle.ball_landing.specs.BranchLandings.{LeavesAt}
+use Rattle.ball_landing.specs.LandingBodies.{query_or, query_up, IsEndBody, IsLandingBody, left_by_ball, LandingsRead, ReadsAsLanded}
 use Rattle.ball_landing.proofs.AllLandingLemmas.{balls_land}
 use Rattle.ball_landing.proofs.RecoveryLemmas.{reads_at}
 use Rattle.task_closing.proofs.QuietLemmas.{BranchLaws}
@@ -55,7 +55,7 @@ module _ (settled : NumberedTreesAreSettled) (laws : BranchLaws) (job : Job) (no
       let k = taken_out nodes.rows (reading job) levels status table.placed in
       query_there nodes.rows (reading job) levels k.way (cell_of status) k.around
 
-  read_as : (places : List Place) → LandsAt job nodes.rows ball levels places left → IsLanding nodes.rows (map place_at levels) ball places scope body
+  read_as : (places : List Place) → LeavesAt job nodes.rows ball levels places left → IsLandingBody nodes.rows (map place_at levels) ball places scope body
       → ReadsAsLanded job nodes.rows levels ball mark scope body
   read_as [] lands made = record {
     scope_is = ap (ball_scope levels) lands ∙ (sym query_is ∙ sym made.0);

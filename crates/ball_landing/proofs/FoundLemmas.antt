@@ -17,7 +17,7 @@ use Rattle.tree_nodes.specs.Bodies.{Body, BodyKind, ChoiceBody, ConditionBody, C
 use Rattle.tree_nodes.specs.Rows.{Rows, row_of_node}
 use Rattle.tree_closing.specs.Sleeping.{right_of}
 use Rattle.branch_loading.specs.PlacesUp.{AreAllUp, LeadsUp, body_at, is_query_body, items_at_place}
-use Rattle.ball_landing.specs.Landings.{AreReadableBeside, IsReadableBeside, PassesOn, at_node, first_catch, here_or, is_beside_sleeper, landing, next_by_kind, next_catch, taken_on, way_beside}
+use Rattle.ball_landing.specs.Landings.{AreReadableBeside, IsReadableBeside, PassesOn, at_node, innermost_catch, here_or, is_beside_sleeper, landing, next_by_kind, next_catch, taken_on, way_beside}
 use Rattle.ball_landing.specs.TakenBalls.{RecoversBeside}
 use Rattle.ball_landing.specs.LandingBodies.{IsRecoveryBody, query_or, query_up}
 
@@ -55,7 +55,7 @@ passes_other rows ball (Some n) p above h = by_test (p.node == n) refl
     abbrev_here : List Place
     abbrev_here =
         cond (is_beside_sleeper rows p)
-        (at_node (body_at rows p).kind (way_beside rows p above) ball (p ∷ above) (landing rows ball (first_catch (items_at_place rows (right_of p))) above)) []
+        (at_node (body_at rows p).kind (way_beside rows p above) ball (p ∷ above) (landing rows ball (innermost_catch (items_at_place rows (right_of p))) above)) []
 
     by_test : (b : Bool) → (p.node == n) ≡ b → cond b abbrev_here (landing rows ball (Some n) above) ≡ landing rows ball (Some n) above
     by_test true e = absurd (h (ap Some (sym (eqb-true p.node n e))))
@@ -63,7 +63,7 @@ passes_other rows ball (Some n) p above h = by_test (p.node == n) refl
 
 abbrev found_here : Rows → Term → Place → List Place → Bool → List Place
 found_here rows ball p above asleep =
-    cond asleep (at_node (body_at rows p).kind (way_beside rows p above) ball (p ∷ above) (landing rows ball (first_catch (items_at_place rows (right_of p))) above)) []
+    cond asleep (at_node (body_at rows p).kind (way_beside rows p above) ball (p ∷ above) (landing rows ball (innermost_catch (items_at_place rows (right_of p))) above)) []
 
 own_mark : (rows : Rows) (ball : Term) (p : Place) (above : List Place) → landing rows ball (Some p.node) (p ∷ above) ≡ found_here rows ball p above (is_beside_sleeper rows p)
 own_mark rows ball p above =
@@ -75,7 +75,7 @@ pub passes_on : (rows : Rows) (ball : Term) (p : Place) (above : List Place) →
 passes_on rows ball p above h = own_mark rows ball p above ∙ by_sleeper (is_beside_sleeper rows p) refl
   where
     further : Option ℕ
-    further = first_catch (items_at_place rows (right_of p))
+    further = innermost_catch (items_at_place rows (right_of p))
 
     by_kind : is_beside_sleeper rows p ≡ true → (k : BodyKind) → (body_at rows p).kind ≡ k
         → at_node k (way_beside rows p above) ball (p ∷ above) (landing rows ball further above) ≡ landing rows ball (next_by_kind k further) above
@@ -96,8 +96,8 @@ pub caught_here : (rows : Rows) (ball : Term) (p : Place) (above : List Place) �
 caught_here rows ball p above asleep catcher recovery kind s takes =
     own_mark rows ball p above
     ∙ (ap (found_here rows ball p above) asleep
-    ∙ (ap (λ k. at_node k (way_beside rows p above) ball (p ∷ above) (landing rows ball (first_catch (items_at_place rows (right_of p))) above)) kind
-    ∙ ap (λ o. here_or o (p ∷ above) (landing rows ball (first_catch (items_at_place rows (right_of p))) above)) takes))
+    ∙ (ap (λ k. at_node k (way_beside rows p above) ball (p ∷ above) (landing rows ball (innermost_catch (items_at_place rows (right_of p))) above)) kind
+    ∙ ap (λ o. here_or o (p ∷ above) (landing rows ball (innermost_catch (items_at_place rows (right_of p))) above)) takes))
 
 -- what a slice to the end holds
 pub above_is : (xs : List AltRef) (i : ℕ) → map place_view (take (length xs - (i + 1)) (drop (i + 1) xs)) ≡ map place_view (drop (suc i) xs)

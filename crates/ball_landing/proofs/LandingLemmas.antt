@@ -43,8 +43,8 @@ use Rattle.interleaving.proofs.ContextLemmas.{taken_out as sound_out}
 use Rattle.interleaving.proofs.EntryLemmas.{length-floor, own_height}
 use Rattle.interleaving.proofs.WayLemmas.{cond-false, through-on}
 use Rattle.branch_loading.specs.PlacesUp.{missing_body, body_at, branching_at, items_at_place}
-use Rattle.ball_landing.specs.BallsLand.{height_of_mark, IsMarkOf, by_heights_over, continuation_bound, recovered_by, LandsAt}
-use Rattle.ball_landing.specs.Landings.{first_catch, at_node, bound_on, here_or, is_beside_sleeper, landing, taken_on, way_beside}
+use Rattle.ball_landing.specs.BranchLandings.{height_of_mark, IsMarkOver, by_heights_over, continuation_bound, recovered_by, LeavesAt}
+use Rattle.ball_landing.specs.Landings.{innermost_catch, at_node, bound_on, here_or, is_beside_sleeper, landing, taken_on, way_beside}
 
 -- a mark that is not below this many entries
 abbrev IsHigh : Option ℕ → ℕ → Type 0
@@ -98,7 +98,7 @@ mark_by_heights up (CollectMark t s ∷ items) = mark_by_heights up items
 mark_by_heights up (RemovalItem n ∷ items) = mark_by_heights up items
 
 -- bindings leave the first mark
-mark_meant : (s : Substitution) (items : List BranchItem) → first_mark (map (resolve_item s) (items_meant items)) ≡ first_catch items
+mark_meant : (s : Substitution) (items : List BranchItem) → first_mark (map (resolve_item s) (items_meant items)) ≡ innermost_catch items
 mark_meant s [] = refl
 mark_meant s (Goal term cut ∷ items) = mark_meant s items
 mark_meant s (CatchEnd scope ∷ items) = refl
@@ -150,7 +150,7 @@ first_on way (GoalItem t s ∷ items) h = first_from way s (first_mark items) (f
 first_on way (CollectMark t s ∷ items) h = first_above way s (first_mark items) (first_on (way_above way s) items h.1)
 first_on way (RemovalItem n ∷ items) h = first_on way items h
 
-mark_of_levels : (levels : List Level) (o : Option ℕ) → IsFirstOn (way_of levels) o → IsMarkOf levels o
+mark_of_levels : (levels : List Level) (o : Option ℕ) → IsFirstOn (way_of levels) o → IsMarkOver levels o
 mark_of_levels levels None h = tt
 mark_of_levels levels (Some s) h = h
 
@@ -199,7 +199,7 @@ branching_is rows (v ∷ up) way on =
 
 -- what the levels above take stands as deep over one more
 pub lifted : (job : Job) (rows : Rows) (ball : Term) (v : Level) (up : List Level) (places : List Place) (stack : List Entry)
-    → LandsAt job rows ball up places stack → LandsAt job rows ball (v ∷ up) places stack
+    → LeavesAt job rows ball up places stack → LeavesAt job rows ball (v ∷ up) places stack
 lifted job rows ball v up [] stack h = h
 lifted job rows ball v up (p ∷ above) stack h =
     let low = h.below in
@@ -362,32 +362,32 @@ module _ (settled : NumberedTreesAreSettled) (job : Job) (nodes : NodesView) (ba
           ≡ recovered (taken_on here catcher ball) ball (resolve s recovery) (by_heights_over up f) (floor_of up) (unwound ball (first_mark (by_heights_over up f).items) (floor_of up))
       stack_is m own = ap (unwound ball (Some m)) (floor_is ∙ ap (λ x. with_heights up x ∷ floor_of up) e_is) ∙ at_catch ball (resolve s catcher) (resolve s recovery) f up m own
 
-      mark_is : first_mark f.items ≡ first_catch (items_on here)
+      mark_is : first_mark f.items ≡ innermost_catch (items_on here)
       mark_is = mark_meant s (items_on here)
 
-      next_mark_is : first_mark (by_heights_over up f).items ≡ height_of_mark up (first_catch (items_on here))
+      next_mark_is : first_mark (by_heights_over up f).items ≡ height_of_mark up (innermost_catch (items_on here))
       next_mark_is = mark_by_heights up f.items ∙ ap (height_of_mark up) mark_is
 
       scoped : AreScoped (way_of up) f.items
       scoped = (subst (IsOnWay (way_of (second ∷ up))) e_is named).scoped
 
-      mark_on : IsMarkOf up (first_catch (items_on here))
-      mark_on = mark_of_levels up (first_catch (items_on here)) (subst (IsFirstOn (way_of up)) mark_is (first_on (way_of up) f.items scoped))
+      mark_on : IsMarkOver up (innermost_catch (items_on here))
+      mark_on = mark_of_levels up (innermost_catch (items_on here)) (subst (IsFirstOn (way_of up)) mark_is (first_on (way_of up) f.items scoped))
 
       named_items : Each (NamesLevels up) (items_meant (items_on here))
       named_items = names_back up s (items_meant (items_on here)) (scoped_items_name_levels up f.items scoped)
 
-      further_is : landing nodes.rows ball (first_catch (items_on here)) (map place_at up)
-          ≡ landing nodes.rows ball (first_catch (items_at_place nodes.rows (right_of p))) (map place_at up)
-      further_is = ap (λ (x : Body). landing nodes.rows ball (first_catch (branch_items (slice_get x.branches 1))) (map place_at up)) (sym body_is)
+      further_is : landing nodes.rows ball (innermost_catch (items_on here)) (map place_at up)
+          ≡ landing nodes.rows ball (innermost_catch (items_at_place nodes.rows (right_of p))) (map place_at up)
+      further_is = ap (λ (x : Body). landing nodes.rows ball (innermost_catch (branch_items (slice_get x.branches 1))) (map place_at up)) (sym body_is)
 
       lands_here : (o : Option Substitution) → taken_on here catcher ball ≡ o
-          → LandsAt job nodes.rows ball up (landing nodes.rows ball (first_catch (items_on here)) (map place_at up)) (unwound ball (height_of_mark up (first_catch (items_on here))) (floor_of up))
-          → LandsAt job nodes.rows ball (v ∷ up) (here_or o (p ∷ map place_at up) (landing nodes.rows ball (first_catch (items_on here)) (map place_at up)))
+          → LeavesAt job nodes.rows ball up (landing nodes.rows ball (innermost_catch (items_on here)) (map place_at up)) (unwound ball (height_of_mark up (innermost_catch (items_on here))) (floor_of up))
+          → LeavesAt job nodes.rows ball (v ∷ up) (here_or o (p ∷ map place_at up) (landing nodes.rows ball (innermost_catch (items_on here)) (map place_at up)))
           (recovered o ball (resolve s recovery) (by_heights_over up f) (floor_of up) (unwound ball (first_mark (by_heights_over up f).items) (floor_of up)))
       lands_here None takes rest =
           lifted job nodes.rows ball v up _ _
-          (subst (λ k. LandsAt job nodes.rows ball up (landing nodes.rows ball (first_catch (items_on here)) (map place_at up)) (unwound ball k (floor_of up))) (sym next_mark_is) rest)
+          (subst (λ k. LeavesAt job nodes.rows ball up (landing nodes.rows ball (innermost_catch (items_on here)) (map place_at up)) (unwound ball k (floor_of up))) (sym next_mark_is) rest)
       lands_here (Some o) takes rest = record {
         level = v;
         up = up;
@@ -415,14 +415,14 @@ module _ (settled : NumberedTreesAreSettled) (job : Job) (nodes : NodesView) (ba
       }
 
       catch_lands : (m : ℕ) → m ≡ length up
-          → LandsAt job nodes.rows ball up (landing nodes.rows ball (first_catch (items_on here)) (map place_at up)) (unwound ball (height_of_mark up (first_catch (items_on here))) (floor_of up))
-          → LandsAt job nodes.rows ball (v ∷ up)
+          → LeavesAt job nodes.rows ball up (landing nodes.rows ball (innermost_catch (items_on here)) (map place_at up)) (unwound ball (height_of_mark up (innermost_catch (items_on here))) (floor_of up))
+          → LeavesAt job nodes.rows ball (v ∷ up)
           (here_or (taken_on (way_beside nodes.rows p (map place_at up)) catcher ball) (p ∷ map place_at up)
-          (landing nodes.rows ball (first_catch (items_at_place nodes.rows (right_of p))) (map place_at up)))
+          (landing nodes.rows ball (innermost_catch (items_at_place nodes.rows (right_of p))) (map place_at up)))
           (unwound ball (Some m) (floor_of (v ∷ up)))
       catch_lands m own rest =
-          subst (LandsAt job nodes.rows ball (v ∷ up) _) (sym (stack_is m own))
-          (subst (λ places. LandsAt job nodes.rows ball (v ∷ up) places
+          subst (LeavesAt job nodes.rows ball (v ∷ up) _) (sym (stack_is m own))
+          (subst (λ places. LeavesAt job nodes.rows ball (v ∷ up) places
           (recovered (taken_on here catcher ball) ball (resolve s recovery) (by_heights_over up f) (floor_of up) (unwound ball (first_mark (by_heights_over up f).items) (floor_of up))))
           (ap₂ (λ (o : Option Substitution) (xs : List Place). here_or o (p ∷ map place_at up) xs) (ap (λ w. taken_on w catcher ball) (sym way_is)) further_is)
           (lands_here (taken_on here catcher ball) refl rest))
@@ -437,13 +437,13 @@ module _ (settled : NumberedTreesAreSettled) (job : Job) (nodes : NodesView) (ba
         ∙ (no_catch_passes ball (Some m) up e (floor_of up) plain ∙ none_takes ball (Some m) (floor_of up) (let n = length-floor up in omega (arith, high, n)))
 
     by_node_kind : (k : BodyKind) → body.kind ≡ k → (m : ℕ) → m ≡ length up
-        → ((mark : Option ℕ) → IsMarkOf up mark → LandsAt job nodes.rows ball up (landing nodes.rows ball mark (map place_at up)) (unwound ball (height_of_mark up mark) (floor_of up)))
-        → LandsAt job nodes.rows ball (v ∷ up)
+        → ((mark : Option ℕ) → IsMarkOver up mark → LeavesAt job nodes.rows ball up (landing nodes.rows ball mark (map place_at up)) (unwound ball (height_of_mark up mark) (floor_of up)))
+        → LeavesAt job nodes.rows ball (v ∷ up)
         (at_node k (way_beside nodes.rows p (map place_at up)) ball (p ∷ map place_at up)
-        (landing nodes.rows ball (first_catch (items_at_place nodes.rows (right_of p))) (map place_at up)))
+        (landing nodes.rows ball (innermost_catch (items_at_place nodes.rows (right_of p))) (map place_at up)))
         (unwound ball (Some m) (floor_of (v ∷ up)))
     by_node_kind (CatchBody catcher recovery) kind m own rest =
-        catch_lands catcher recovery kind m own (rest (first_catch (items_on ((body, 1) ∷ above))) (mark_on catcher recovery kind))
+        catch_lands catcher recovery kind m own (rest (innermost_catch (items_on ((body, 1) ∷ above))) (mark_on catcher recovery kind))
     by_node_kind ChoiceBody kind m own rest = absurd (cc (subst (λ k. IsSleeping (sleeping_of k) (Some e)) kind by_kind))
     by_node_kind ConditionBody kind m own rest = absurd (cc (subst (λ k. IsSleeping (sleeping_of k) (Some e)) kind by_kind))
     by_node_kind (FindallBody results list) kind m own rest =
@@ -456,10 +456,10 @@ module _ (settled : NumberedTreesAreSettled) (job : Job) (nodes : NodesView) (ba
         others_pass m (omega (arith, own)) (subst IsNoCatch (sym is) tt)
 
     pub sleeper_lands : (m : ℕ) → m ≡ length up
-        → ((mark : Option ℕ) → IsMarkOf up mark → LandsAt job nodes.rows ball up (landing nodes.rows ball mark (map place_at up)) (unwound ball (height_of_mark up mark) (floor_of up)))
-        → LandsAt job nodes.rows ball (v ∷ up)
+        → ((mark : Option ℕ) → IsMarkOver up mark → LeavesAt job nodes.rows ball up (landing nodes.rows ball mark (map place_at up)) (unwound ball (height_of_mark up mark) (floor_of up)))
+        → LeavesAt job nodes.rows ball (v ∷ up)
         (at_node (body_at nodes.rows p).kind (way_beside nodes.rows p (map place_at up)) ball (p ∷ map place_at up)
-        (landing nodes.rows ball (first_catch (items_at_place nodes.rows (right_of p))) (map place_at up)))
+        (landing nodes.rows ball (innermost_catch (items_at_place nodes.rows (right_of p))) (map place_at up)))
         (unwound ball (Some m) (floor_of (v ∷ up)))
     sleeper_lands m own rest = by_node_kind (body_at nodes.rows p).kind (ap (λ (x : Body). x.kind) (sym body_is)) m own rest
 

@@ -29,11 +29,11 @@ outs_can_land settled placed job nodes worker a t table legal out =
     let s = spot_out (taken_at worker a t) out in
     let there = out_at job nodes t worker a s.0 table s.1 in
     let whole = readable settled job nodes (levels_of s.0) (Pending s.0.hold s.0.entry) there.table
-        (subst (IsSound []) (sym there.in_tree) legal.sound.sound) (subst IsNumberedStatus (sym there.in_tree) legal.numbered) in
+    (subst (IsSound []) (sym there.in_tree) legal.sound.sound) (subst IsNumberedStatus (sym there.in_tree) legal.numbered) in
     record {
       there = there.cell_there;
       readable = λ places all.
           let are = placed nodes (reading job) s.0.level s.0.above (Pending s.0.hold s.0.entry) there.way places there.table there.on
-              (subst (λ q. AreAllUp nodes.rows q places) (sym there.at) all) in
+          (subst (λ q. AreAllUp nodes.rows q places) (sym there.at) all) in
           subst (AreReadableBeside nodes.rows) (sym are.levels_are) whole;
     }

@@ -38,7 +38,7 @@ use Rattle.branch_shapes.proofs.FloorItemLemmas.{has_height}
 use Rattle.interleaving.proofs.EntryLemmas.{own_height}
 use Rattle.branch_loading.specs.PlacesUp.{missing_body, body_at, branching_at}
 use Rattle.ball_landing.specs.Landings.{bound_on, taken_on, way_beside}
-use Rattle.ball_landing.specs.BallsLand.{continuation_bound, recovered_by, IsTakenAt}
+use Rattle.ball_landing.specs.BranchLandings.{continuation_bound, recovered_by, IsTakenAt}
 use Rattle.ball_landing.specs.LandingBodies.{body_with, node_above, IsRecoveryBody}
 use Rattle.task_closing.proofs.QuietLemmas.{BranchLaws}
 use Rattle.branch_publishing.proofs.GoalLemmas.{settled_more}

@@ -13,7 +13,7 @@ use Rattle.region_split.proofs.ResultLemmas.{copy_unbound}
 use Rattle.region_capture.specs.CaptureSteps.{AreWrittenOverFloor}
 use Rattle.branch_bindings.specs.Extensions.{ExtendsBy}
 use Rattle.branch_shapes.specs.ExtendedWays.{number_after}
-use Rattle.ball_landing.specs.TakenBalls.{taken_at, LeadsToTaken}
+use Rattle.ball_landing.specs.TakenBalls.{taken_over, LeadsToTaken}
 
 -- the catcher was put behind the text, then a copy of the ball with new variables
 pub record IsAsked (st0 st2 st4 : StoreView) (catcher ball : Term) (takes : ℕ) (cv pv : BindingCell) : Type 0 where
@@ -44,10 +44,10 @@ module _ (st0 st2 st4 : StoreView) (catcher ball : Term) (takes : ℕ) (cv pv : 
   copy_means : meaning st4 pv ≡ copied ball m.next
   copy_means = ap₂ resolve q.second.bound q.copy ∙ (copy_unbound (substitution st2) ball st2.now.next q.valid.new ∙ ap (copied ball) q.first.next)
 
-  asked_is : taken_at m catcher ball ≡ unifier ((meaning st4 cv, meaning st4 pv) ∷ [])
+  asked_is : taken_over m catcher ball ≡ unifier ((meaning st4 cv, meaning st4 pv) ∷ [])
   asked_is = ap₂ (λ t u. unifier ((t, u) ∷ [])) (sym catcher_means) (sym copy_means)
 
-  pub not_taken : IsUnified cv pv st4 st4 false → taken_at m catcher ball ≡ None
+  pub not_taken : IsUnified cv pv st4 st4 false → taken_over m catcher ball ≡ None
   not_taken h = asked_is ∙ h
 
   module _ (st5 : StoreView) (u : AreUnified cv pv st4 st5) (segment : Segment) (base : segment.base ≡ st2.now.next) (vars : segment.vars ≡ takes) (written : AreWrittenOverFloor st5 segment.bindings) where

@@ -13,8 +13,8 @@ use Rattle.tree_nodes.specs.Bodies.{body_view}
 use Rattle.tree_nodes.specs.Rows.{Rows, cell_at, scope_number}
 use Rattle.branch_loading.specs.PlacesUp.{AreAllUp, LeadsUp, items_at_place}
 use Rattle.branch_steps.specs.RestBodies.{items_behind}
-use Rattle.ball_landing.specs.Landings.{AreReadableBeside, first_catch, landing}
-use Rattle.ball_landing.specs.LandingBodies.{IsLanding, IsRecoveryBody}
+use Rattle.ball_landing.specs.Landings.{AreReadableBeside, innermost_catch, landing}
+use Rattle.ball_landing.specs.LandingBodies.{IsLandingBody, IsRecoveryBody}
 use Rattle.ball_landing.specs.declared.landing.BallLanding.{BallLanding}
 
 -- the first catch on the way up that takes a ball, with the body of its recovery, or that none does
@@ -25,9 +25,9 @@ pub record IsCaughtAt (rows : Rows) (places : List Place) (ball : Term) (first :
   pub scope : scope_number l.scope ≡ place.node
   pub body : IsRecoveryBody rows place above ball (body_view (arc_value l.body))
 
-abbrev pub FindsLanding : Rows → List Place → Term → Option ℕ → Option BallLanding → Type 0
-FindsLanding rows places ball first None = landing rows ball first places ≡ []
-FindsLanding rows places ball first (Some l) = IsCaughtAt rows places ball first l
+abbrev pub FindsCaught : Rows → List Place → Term → Option ℕ → Option BallLanding → Type 0
+FindsCaught rows places ball first None = landing rows ball first places ≡ []
+FindsCaught rows places ball first (Some l) = IsCaughtAt rows places ball first l
 
 -- places on the way up, to the top
 abbrev pub LeadToTop : Rows → List Place → Type 0
@@ -51,4 +51,4 @@ OutsCanLandBalls =
 pub record LandsBall (rows : Rows) (a : Place) (ball : Term) (l : BallLanding) : Type 0 where
   pub places : List Place
   pub up : AreAllUp rows a places
-  pub lands : IsLanding rows places ball (landing rows ball (first_catch (items_behind (items_at_place rows a))) places) (scope_number l.scope) (body_view (arc_value l.body))
+  pub lands : IsLandingBody rows places ball (landing rows ball (innermost_catch (items_behind (items_at_place rows a))) places) (scope_number l.scope) (body_view (arc_value l.body))

@@ -29,7 +29,7 @@ use Rattle.branch_shapes.specs.ExtendedWays.{LeadsOn, number_after}
 use Rattle.public_tree.specs.PublicPruning.{ReadsAsFallen}
 use Rattle.branch_loading.specs.PlacesUp.{body_at}
 use Rattle.ball_landing.specs.Landings.{landing, taken_on, way_beside}
-use Rattle.ball_landing.specs.BallsLand.{height_of_mark, IsMarkOf}
+use Rattle.ball_landing.specs.BranchLandings.{height_of_mark, IsMarkOver}
 
 -- the node above a place; no node has this number where none is
 abbrev pub node_above : List Place → ℕ
@@ -81,9 +81,9 @@ query_up rows [] = 0
 query_up rows (p ∷ above) = query_or (body_at rows p).kind p.node (query_up rows above)
 
 -- the scope of a ball that lands so on the way up from places, and the body of what it leaves there
-abbrev pub IsLanding : Rows → List Place → Term → List Place → ℕ → Body → Type 0
-IsLanding rows places ball [] scope body = (scope ≡ query_up rows places) × IsEndBody ball body
-IsLanding rows places ball (p ∷ above) scope body = (scope ≡ p.node) × IsRecoveryBody rows p above ball body
+abbrev pub IsLandingBody : Rows → List Place → Term → List Place → ℕ → Body → Type 0
+IsLandingBody rows places ball [] scope body = (scope ≡ query_up rows places) × IsEndBody ball body
+IsLandingBody rows places ball (p ∷ above) scope body = (scope ≡ p.node) × IsRecoveryBody rows p above ball body
 
 -- what a ball leaves of a branch
 abbrev pub left_by_ball : Term → Option ℕ → List Level → List Entry
@@ -97,6 +97,6 @@ pub record ReadsAsLanded (job : Job) (rows : Rows) (levels : List Level) (ball :
 abbrev pub LandingsRead : Type 0
 LandingsRead =
     (job : Job) (nodes : NodesView) (levels : List Level) (status : Status) (ball : Term) (mark : Option ℕ) (scope : ℕ) (body : Body)
-    → IsTableOf nodes (reading job) (plug levels status) → IsSound [] (plug levels status) → IsNumberedStatus (plug levels status) → IsMarkOf levels mark
-    → IsLanding nodes.rows (map place_at levels) ball (landing nodes.rows ball mark (map place_at levels)) scope body
+    → IsTableOf nodes (reading job) (plug levels status) → IsSound [] (plug levels status) → IsNumberedStatus (plug levels status) → IsMarkOver levels mark
+    → IsLandingBody nodes.rows (map place_at levels) ball (landing nodes.rows ball mark (map place_at levels)) scope body
     → ReadsAsLanded job nodes.rows levels ball mark scope body

@@ -16,13 +16,13 @@ use Rattle.branch_reading.specs.SettledWays.{is_way_settled}
 use Rattle.branch_loading.specs.PlacesUp.{body_at, branching_at, items_at_place}
 
 -- the node of the catch whose guarded goals end first among these items
-abbrev pub first_catch : List Item → Option ℕ
-first_catch [] = None
-first_catch (Goal term cut ∷ items) = first_catch items
-first_catch (CatchEnd scope ∷ items) = Some (scope_number scope)
-first_catch (Collect template scope ∷ items) = first_catch items
-first_catch (Remove id ∷ items) = first_catch items
-first_catch (End ball ∷ items) = first_catch items
+abbrev pub innermost_catch : List Item → Option ℕ
+innermost_catch [] = None
+innermost_catch (Goal term cut ∷ items) = innermost_catch items
+innermost_catch (CatchEnd scope ∷ items) = Some (scope_number scope)
+innermost_catch (Collect template scope ∷ items) = innermost_catch items
+innermost_catch (Remove id ∷ items) = innermost_catch items
+innermost_catch (End ball ∷ items) = innermost_catch items
 
 -- the way to the second alternative of a place's node, and what is bound on a way
 abbrev pub way_beside : Rows → Place → List Place → Branching
@@ -58,7 +58,7 @@ landing rows ball None (p ∷ above) = []
 landing rows ball (Some n) (p ∷ above) =
     cond (p.node == n)
     (cond (is_beside_sleeper rows p)
-    (at_node (body_at rows p).kind (way_beside rows p above) ball (p ∷ above) (landing rows ball (first_catch (items_at_place rows (right_of p))) above))
+    (at_node (body_at rows p).kind (way_beside rows p above) ball (p ∷ above) (landing rows ball (innermost_catch (items_at_place rows (right_of p))) above))
     [])
     (landing rows ball (Some n) above)
 
@@ -71,7 +71,7 @@ next_by_kind (FindallBody results list) mark = None
 next_by_kind QueryBody mark = None
 
 abbrev pub next_catch : Rows → Place → Option ℕ
-next_catch rows p = cond (is_beside_sleeper rows p) (next_by_kind (body_at rows p).kind (first_catch (items_at_place rows (right_of p)))) None
+next_catch rows p = cond (is_beside_sleeper rows p) (next_by_kind (body_at rows p).kind (innermost_catch (items_at_place rows (right_of p)))) None
 
 -- what sleeps beside a place, if anything does, does not take a ball
 abbrev pub PassesOn : Rows → Place → List Place → Term → Type 0

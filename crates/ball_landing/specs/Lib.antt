@@ -1,5 +1,5 @@
 pub mod Landings
-pub mod BallsLand
+pub mod BranchLandings
 pub mod LandingBodies
 pub mod CopiesAgain
 pub mod TakenBalls

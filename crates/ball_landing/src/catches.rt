@@ -4,15 +4,15 @@ ghost use Rattle.tree_model.specs.EventViews.{place_view};
 ghost use Rattle.tree_nodes.specs.Rows.{cell_at, cell_view, row_of_node, scope_number};
 ghost use Rattle.tree_closing.specs.Sleeping.{is_asleep, is_asleep_at, right_of};
 ghost use Rattle.branch_steps.specs.RestBodies.{items_behind};
-ghost use Rattle.ball_landing.specs.Landings.{first_catch, is_beside_sleeper, next_catch};
+ghost use Rattle.ball_landing.specs.Landings.{innermost_catch, is_beside_sleeper, next_catch};
 
 use clause_compile::{Goals, Item, Scope};
 use tree_model::AltRef;
 use tree_nodes::{AltState, NodeKind, Nodes};
 
 /// The node of the catch whose guarded goals end first among goals.
-pub(crate) fn first_catch(goals: &Goals) -> Option<u64>
-    ensures { result ≡ first_catch goals.now }
+pub(crate) fn innermost_catch(goals: &Goals) -> Option<u64>
+    ensures { result ≡ innermost_catch goals.now }
 {
     for item in goals.items() {
         if let Item::CatchEnd(scope) = item {
@@ -24,7 +24,7 @@ pub(crate) fn first_catch(goals: &Goals) -> Option<u64>
 
 /// The same behind the first goal.
 pub(crate) fn catch_behind(goals: &Goals) -> Option<u64>
-    ensures { result ≡ first_catch (items_behind goals.now) }
+    ensures { result ≡ innermost_catch (items_behind goals.now) }
 {
     let mut behind = false;
     for item in goals.items() {
@@ -89,7 +89,7 @@ pub(crate) fn next_catch(nodes: &Nodes, at: AltRef) -> Option<u64>
     }
     let body = nodes.body(at.node);
     match &body.kind {
-        NodeKind::Catch { .. } => first_catch(&body.branches[1].goals),
+        NodeKind::Catch { .. } => innermost_catch(&body.branches[1].goals),
         NodeKind::Choice | NodeKind::Condition | NodeKind::Findall { .. } | NodeKind::Query => None,
     }
 }

@@ -7,7 +7,7 @@ ghost use Rattle.tree_nodes.specs.Rows.{cell_at};
 ghost use Rattle.branch_loading.specs.PlacesUp.{is_query_body};
 ghost use Rattle.ball_landing.specs.Landings.{AreReadableBeside};
 ghost use Rattle.ball_landing.specs.LandingBodies.{IsEndBody, query_up};
-ghost use Rattle.ball_landing.specs.FoundLandings.{FindsLanding, HasReadableCatches, LandsBall, LeadToTop};
+ghost use Rattle.ball_landing.specs.FoundLandings.{FindsCaught, HasReadableCatches, LandsBall, LeadToTop};
 
 use crate::catches::{catch_behind, next_catch};
 use crate::recovery::recovery_body;
@@ -63,7 +63,7 @@ fn caught_up(
 ) -> Result<Option<BallLanding>, NoMemory>
     requires up { LeadToTop nodes.now.rows (map place_view places.now) }
     requires readable { AreReadableBeside nodes.now.rows (map place_view places.now) }
-    ensures { IfOk result (FindsLanding nodes.now.rows (map place_view places.now) ball.now first) }
+    ensures { IfOk result (FindsCaught nodes.now.rows (map place_view places.now) ball.now first) }
 {
     let mut mark = first;
     for index in 0..places.len() {

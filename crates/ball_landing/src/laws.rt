@@ -1,5 +1,5 @@
 //! Laws of where balls land: each function does nothing, and its contract is the law.
-ghost use Rattle.ball_landing.specs.BallsLand.{BallsLand};
+ghost use Rattle.ball_landing.specs.BranchLandings.{BallsLandByNodes};
 ghost use Rattle.ball_landing.specs.CopiesAgain.{CopiesAreAlike};
 ghost use Rattle.ball_landing.specs.FoundLandings.{OutsCanLandBalls};
 ghost use Rattle.ball_landing.specs.LandingBodies.{LandingsRead};
@@ -10,7 +10,7 @@ use branch_shapes::laws::{branches_read_bound, settled_segments_bind};
 
 /// What a ball leaves of a branch is told by what its nodes were made from.
 pub fn balls_land()
-    ensures { BallsLand }
+    ensures { BallsLandByNodes }
 {
     numbered_trees_are_settled();
 }

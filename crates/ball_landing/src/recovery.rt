@@ -1,12 +1,12 @@
 //! The recovery of a catch that takes a ball.
-ghost use Rattle.std.specs.Prelude.{◌≡◌, ◌∷◌, IfOk, IsSome, MatchOption, map};
+ghost use Rattle.std.specs.Prelude.{◌≡◌, ◌∷◌, IfOk, IsSome, map};
 ghost use Rattle.std.specs.Arc.{arc_value};
 ghost use Rattle.tree_model.specs.EventViews.{place_view};
 ghost use Rattle.tree_nodes.specs.Bodies.{body_view};
 ghost use Rattle.tree_nodes.specs.Rows.{row_of_node};
 ghost use Rattle.branch_loading.specs.PlacesUp.{AreAllUp};
-ghost use Rattle.ball_landing.specs.Landings.{IsReadableBeside, PassesOn};
-ghost use Rattle.ball_landing.specs.TakenBalls.{RecoversBeside};
+ghost use Rattle.ball_landing.specs.Landings.{IsReadableBeside};
+ghost use Rattle.ball_landing.specs.TakenBalls.{RecoversIfTaken};
 
 use crate::catches::{beside, is_beside_sleeper};
 use crate::taking::{recovery_goals, take_ball, way_beside};
@@ -32,7 +32,7 @@ pub(crate) fn recovery_body(
     requires there { IsSome (row_of_node nodes.now.rows at.node) }
     requires up { AreAllUp nodes.now.rows (place_view at) (place_view at ∷ map place_view above.now) }
     requires readable { IsReadableBeside nodes.now.rows (place_view at) (map place_view above.now) }
-    ensures { IfOk result (λ made. MatchOption made (PassesOn nodes.now.rows (place_view at) (map place_view above.now) ball.now) (λ b. RecoversBeside nodes.now.rows (place_view at) (map place_view above.now) ball.now (body_view (arc_value b)))) }
+    ensures { IfOk result (RecoversIfTaken (λ b. body_view (arc_value b)) nodes.now.rows (place_view at) (map place_view above.now) ball.now) }
 {
     if !is_beside_sleeper(nodes, at) {
         return Ok(None);

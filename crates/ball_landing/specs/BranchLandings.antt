@@ -32,9 +32,9 @@ height_of_mark levels None = None
 height_of_mark levels (Some s) = Some (height_of levels s - 1)
 
 -- it names a node of them
-abbrev pub IsMarkOf : List Level → Option ℕ → Type 0
-IsMarkOf levels None = Unit {0}
-IsMarkOf levels (Some s) = is_on (way_of levels) s ≡ true
+abbrev pub IsMarkOver : List Level → Option ℕ → Type 0
+IsMarkOver levels None = Unit {0}
+IsMarkOver levels (Some s) = is_on (way_of levels) s ≡ true
 
 -- what follows a catch, by heights over the levels above it
 abbrev pub by_heights_over : List Level → Continuation ℕ → Continuation ℕ
@@ -73,13 +73,13 @@ pub record IsTakenAt (job : Job) (rows : Rows) (ball : Term) (levels : List Leve
   pub leaves : stack ≡ PlainEntry (recovered_by unifier ball (resolve (bound_on (way_beside rows p above)) recovery) up (continuation_bound job (way_beside rows p above))) ∷ floor_of up
 
 -- or no catch does, and the query ends with it
-abbrev pub LandsAt : Job → Rows → Term → List Level → List Place → List Entry → Type 0
-LandsAt job rows ball levels [] stack = stack ≡ EndEntry (Some (copied ball 0)) ∷ []
-LandsAt job rows ball levels (p ∷ above) stack = IsTakenAt job rows ball levels p above stack
+abbrev pub LeavesAt : Job → Rows → Term → List Level → List Place → List Entry → Type 0
+LeavesAt job rows ball levels [] stack = stack ≡ EndEntry (Some (copied ball 0)) ∷ []
+LeavesAt job rows ball levels (p ∷ above) stack = IsTakenAt job rows ball levels p above stack
 
 -- on the branch of each sound tree for which the nodes stand
-abbrev pub BallsLand : Type 0
-BallsLand =
+abbrev pub BallsLandByNodes : Type 0
+BallsLandByNodes =
     (job : Job) (nodes : NodesView) (levels : List Level) (status : Status) (ball : Term) (mark : Option ℕ) → IsTableOf nodes (reading job) (plug levels status)
-    → IsSound [] (plug levels status) → IsNumberedStatus (plug levels status) → IsMarkOf levels mark
-    → LandsAt job nodes.rows ball levels (landing nodes.rows ball mark (map place_at levels)) (unwound ball (height_of_mark levels mark) (floor_of levels))
+    → IsSound [] (plug levels status) → IsNumberedStatus (plug levels status) → IsMarkOver levels mark
+    → LeavesAt job nodes.rows ball levels (landing nodes.rows ball mark (map place_at levels)) (unwound ball (height_of_mark levels mark) (floor_of levels))
