@@ -3,10 +3,16 @@
 #![tactic(auto)]
 
 #[cfg(test)]
+mod ended;
+#[cfg(test)]
 mod failing;
+#[cfg(test)]
+mod gated;
 #[cfg(test)]
 mod hand_runs;
 #[cfg(test)]
 mod loaded;
 #[cfg(test)]
 mod published;
+#[cfg(test)]
+mod tasks;

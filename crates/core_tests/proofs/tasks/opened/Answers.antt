@@ -1,6 +1,6 @@
 use Rattle.std.proofs.Common.{refl}
 use Rattle.core_tests.proofs.AskedLemmas.{asked_first}
-use Rattle.core_tests.proofs.published.opened.Goals as goal
+use Rattle.core_tests.proofs.tasks.opened.Goals as goal
 
 pub open-requires : goal.open-requires
 open-requires g c =
