@@ -53,8 +53,19 @@ binding_stays old new from x t b o = record {
 pub nothing_stays : (old new : StoreView) (from : Option ℕ) → new ≡ old → StaysOlder old new from from
 nothing_stays old new from e = record { still = inl refl; kept = λ t p. subst (λ st. IsOlder from (resolve (substitution st) t)) (sym e) p }
 
-ended_stays : (old new : StoreView) (from : Option ℕ) → StaysOlder old new from None
+pub ended_stays : (old new : StoreView) (from : Option ℕ) → StaysOlder old new from None
 ended_stays old new from = record { still = inr refl; kept = λ t p. tt }
+
+-- and what stays older does so twice
+pub stays_older : (old now new : StoreView) (a b c : Option ℕ) → StaysOlder old now a b → StaysOlder now new b c → StaysOlder old new a c
+stays_older old now new a b c s t = by_end t.still
+  where
+    by_end : (c ≡ b) ⊎ (c ≡ None) → StaysOlder old new a c
+    by_end (inl e) = record {
+      still = subst (λ f. (f ≡ a) ⊎ (f ≡ None)) (sym e) s.still;
+      kept = λ u o. t.kept u (subst (λ f. IsOlder f (resolve (substitution now) u)) (sym e) (s.kept u (subst (λ f. IsOlder f (resolve (substitution old) u)) e o)));
+    }
+    by_end (inr e) = subst (StaysOlder old new a) (sym e) (ended_stays old new a)
 
 no_variables : (from : Option ℕ) (t : Term) → var_bound t ≡ 0 → IsOlder from t
 no_variables None t e = tt
@@ -91,11 +102,11 @@ pub first_older_than : (o : Option ℕ) (base : ℕ) (t : Term) → IfSome o (λ
 first_older_than None base t e l = tt
 first_older_than (Some n) base t e l = omega (arith, e, l)
 
-weaker : (from to : Option ℕ) (t : Term) → (to ≡ from) ⊎ (to ≡ None) → IsOlder from t → IsOlder to t
+pub weaker : (from to : Option ℕ) (t : Term) → (to ≡ from) ⊎ (to ≡ None) → IsOlder from t → IsOlder to t
 weaker from to t (inl e) o = subst (λ f. IsOlder f t) (sym e) o
 weaker from to t (inr e) o = subst (λ f. IsOlder f t) (sym e) tt
 
-all_stay : (old new : StoreView) (from to : Option ℕ) (eqs : Equations) → StaysOlder old new from to → AreOlder from (resolved_equations (substitution old) eqs) → AreOlder to (resolved_equations (substitution new) eqs)
+pub all_stay : (old new : StoreView) (from to : Option ℕ) (eqs : Equations) → StaysOlder old new from to → AreOlder from (resolved_equations (substitution old) eqs) → AreOlder to (resolved_equations (substitution new) eqs)
 all_stay old new from to [] s o = tt
 all_stay old new from to (e ∷ eqs) s o = (s.kept e.0 (weaker from to (resolve (substitution old) e.0) s.still o.0), all_stay old new from to eqs s o.1)
 

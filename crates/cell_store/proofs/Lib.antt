@@ -13,6 +13,7 @@ pub mod UnificationLemmas
 pub mod FreshLemmas
 pub mod RuleLemmas
 pub mod SolvingLemmas
+pub mod InTurnLemmas
 pub mod WritingLemmas
 pub mod MadeBindingLemmas
 pub mod ListGoalLemmas

@@ -92,3 +92,15 @@ pub answer_handed_over : {E : Type 0} (a b : BindingCell) (first now new : Store
     → IsSolving (whole a b first) first now fresh es → IfOk r (IsSolved es now new) → IfOk r (IsUnified a b first new)
 answer_handed_over a b first now new fresh es (Ok answer) h k = handed_over a b first now new fresh es answer h k
 answer_handed_over a b first now new fresh es (Err e) h k = k
+
+-- and so where equations were there to begin with
+solved_over : (eqs : List ArgumentEquations) (first now new : StoreView) (fresh : Option ℕ) (es : List ArgumentEquations) (answer : Bool) → IsSolving (equations_left first eqs) first now fresh es → IsSolved es now new answer → IsSolved eqs first new answer
+solved_over eqs first now new fresh es true h k =
+    let m = ended (equations_left first eqs) first now new (equations_left now es) k.further h.unifying h.others k.unified k.binds in
+    record { further = m.further; unified = m.unified; binds = m.binds }
+solved_over eqs first now new fresh es false h k = none_found (equations_left first eqs) (substitution first) (substitution now) (equations_left now es) h.unifying k
+
+pub answer_solved_over : {E : Type 0} (eqs : List ArgumentEquations) (first now new : StoreView) (fresh : Option ℕ) (es : List ArgumentEquations) (r : Result Bool E) → IsSolving (equations_left first eqs) first now fresh es → IfOk r (IsSolved es now new)
+    → IfOk r (IsSolved eqs first new)
+answer_solved_over eqs first now new fresh es (Ok answer) h k = solved_over eqs first now new fresh es answer h k
+answer_solved_over eqs first now new fresh es (Err e) h k = k

@@ -15,10 +15,9 @@ use Rattle.au_model.proofs.UnifierRuleLemmas.{Says, rule_says}
 use Rattle.au_model.proofs.UnifierMeasureLemmas.{AllBelow, work, less_dropped, less_bound, less_opened}
 use Rattle.au_model.proofs.UnifierLemmas.{unifier-first, unifier_goes, all_below, bound_first}
 use Rattle.au_term.proofs.LogicLemmas.{number_same, and-both}
-use Rattle.binding_array.specs.declared.cell.BindingCell.{BindingCell}
 use Rattle.cell_store.specs.Arguments.{argument_meaning}
-use Rattle.cell_store.specs.StoreView.{StoreView, substitution, meaning, text_in, with_substitution, IsComposition, BindsFurther}
-use Rattle.cell_store.specs.UnificationSteps.{equations_in, pending_equations, AllEquations, equations_left, FollowsRule, after_same, after_binding, after_opening, HasRestEquations, KeepsRestEquations, AreUnified}
+use Rattle.cell_store.specs.StoreView.{StoreView, substitution, text_in, with_substitution, IsComposition, BindsFurther}
+use Rattle.cell_store.specs.UnificationSteps.{equations_in, pending_equations, AllEquations, equations_left, FollowsRule, after_same, after_binding, after_opening, HasRestEquations, KeepsRestEquations}
 use Rattle.cell_store.specs.declared.arguments.Equations.{Equations as ArgumentEquations}
 
 -- the first binding holds first, and the rest of what it leaves

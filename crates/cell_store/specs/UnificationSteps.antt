@@ -7,7 +7,7 @@ use Rattle.au_model.specs.Terms.EquationsInTurn.{resolved_equations}
 use Rattle.clause_compile.specs.Places.{CodeView}
 use Rattle.binding_array.specs.declared.cell.BindingCell.{BindingCell}
 use Rattle.cell_store.specs.StoreView.{StoreView, substitution, meaning, text_in, with_substitution, BindsFurther}
-use Rattle.cell_store.specs.Arguments.{argument_at, arguments_in, AreThere}
+use Rattle.cell_store.specs.Arguments.{argument_at, argument_meaning, arguments_in, AreThere}
 use Rattle.cell_store.specs.declared.arguments.Equations.{Equations as ArgumentEquations}
 use Rattle.cell_store.specs.declared.unify.Outcome.{Outcome}
 use Rattle.cell_store.specs.declared.unify.Outcome.TheVariants.{Clash as ClashOutcome, Solved, Inside}
@@ -92,3 +92,17 @@ pub record AreSolved (es : List ArgumentEquations) (old new : StoreView) : Type 
 abbrev pub IsSolved : List ArgumentEquations → StoreView → StoreView → Bool → Type 0
 IsSolved es old new true = AreSolved es old new
 IsSolved es old new false = unifier (equations_left old es) ≡ None
+
+-- the first equation of arguments
+abbrev pub first_equation : StoreView → ArgumentEquations → Equations
+first_equation st e = (argument_meaning st e.left.base e.left.at, argument_meaning st e.right.base e.right.at) ∷ []
+
+-- its unifier was bound, or there is none
+pub record IsFirstSolved (e : ArgumentEquations) (old new : StoreView) : Type 0 where
+  pub further : Substitution
+  pub unified : unifier (first_equation old e) ≡ Some further
+  pub binds : BindsFurther old new further
+
+abbrev pub SolvesFirst : ArgumentEquations → StoreView → StoreView → Bool → Type 0
+SolvesFirst e old new true = IsFirstSolved e old new
+SolvesFirst e old new false = unifier (first_equation old e) ≡ None

@@ -342,24 +342,22 @@ impl Store {
         }
     }
 
-    /// Solves equations, and then the next ones and the last ones behind them.
+    /// Solves equations, and then the next ones behind them.
     #[inline(never)]
     pub(crate) fn solve_behind(
         &mut self,
         first: Equations,
         next: Equations,
-        last: Equations,
         fresh: Option<u32>,
     ) -> Result<bool, NoMemory>
-        requires there { AllEquations (text_in self.old) self.old.now.next (first ∷ next ∷ last ∷ []) }
-        requires older { AreOlder fresh (equations_left self.old (first ∷ next ∷ last ∷ [])) }
+        requires there { AllEquations (text_in self.old) self.old.now.next (first ∷ next ∷ []) }
+        requires older { AreOlder fresh (equations_left self.old (first ∷ next ∷ [])) }
         requires young { AreYoung self.old fresh }
-        ensures solved { IfOk result (IsSolved (first ∷ next ∷ last ∷ []) self.old self.new) }
+        ensures solved { IfOk result (IsSolved (first ∷ next ∷ []) self.old self.new) }
         ensures kept { OnlyBinds self.old self.new }
     {
         let mut pending = mem::replace(&mut self.pending, Vec::new(self.alloc));
         pending.clear();
-        pending.push(last)?;
         pending.push(next)?;
         let answer = solve(first, fresh, self, &mut pending);
         self.pending = pending;

@@ -5,12 +5,12 @@ ghost use Rattle.std.specs.Cmp.Lexicographic.{pointwise};
 ghost use Rattle.au_term.specs.Term.{VarTerm};
 ghost use Rattle.au_model.specs.Terms.Substitutions.{occurs, value_of};
 ghost use Rattle.clause_compile.specs.AtomNumbers.{name_at};
-ghost use Rattle.cell_store.specs.FreshVariables.{AreYoung, IsOlder, StaysOlder, fresh_after, is_fresh};
+ghost use Rattle.cell_store.specs.FreshVariables.{AreOlder, AreYoung, IsOlder, StaysOlder, fresh_after, is_fresh};
 ghost use Rattle.cell_store.specs.Values.{IsNoVariable};
 ghost use Rattle.cell_store.specs.StoreView.{IsUnbound, IsValueIn, compound_meaning, meaning, substitution, text_in};
-ghost use Rattle.cell_store.specs.UnificationSteps.{IsUnified, OnlyBinds, FollowsRule, TakesRule, IsBoundOr, KeepsRestEquations, solved_if};
+ghost use Rattle.cell_store.specs.UnificationSteps.{AllEquations, IsSolved, IsUnified, OnlyBinds, FollowsRule, SolvesFirst, TakesRule, IsBoundOr, KeepsRestEquations, equations_left, solved_if};
 ghost use Rattle.cell_store.specs.ArgumentSteps.{IsConstant};
-ghost use Rattle.cell_store.specs.Arguments.{IsArgument, argument_meaning, with_waiting};
+ghost use Rattle.cell_store.specs.Arguments.{IsArgument, argument_meaning};
 ghost use Rattle.cell_store.specs.declared.arguments.Equations.{Equations as ArgumentEquations};
 
 use crate::arguments::{Arguments, Equations, arguments_of, rest_of};
@@ -29,8 +29,7 @@ pub(crate) enum Outcome {
 
 /// Makes two values one by further bindings, or answers that none do. Where the second is the head of a clause and the
 /// first one older than the clause, `fresh` is the clause's first variable: such a variable is bound to what is older
-/// without the search for it there, and not put on the trail. No list is needed while no more than one equation waits
-/// behind those that are gone through.
+/// without the search for it there, and not put on the trail.
 #[inline]
 pub(crate) fn unify(
     a: BindingCell,
@@ -46,43 +45,96 @@ pub(crate) fn unify(
     ensures kept { OnlyBinds store.old store.new }
 {
     let mut fresh = fresh;
-    let mut open = match first_goes(a, b, &mut fresh, store)? {
-        Outcome::Clash => return Ok(false),
-        Outcome::Solved => return Ok(true),
-        Outcome::Inside(equations) => equations,
-    };
-    let mut waiting = None;
+    match first_goes(a, b, &mut fresh, store)? {
+        Outcome::Clash => Ok(false),
+        Outcome::Solved => Ok(true),
+        Outcome::Inside(equations) => solve_arguments(equations, fresh, store),
+    }
+}
+
+/// Makes both sides of equations one by further bindings, or answers that none do: of one equation after another.
+#[inline(always)]
+fn solve_arguments(
+    equations: Equations,
+    fresh: Option<u32>,
+    store: &mut Store,
+) -> Result<bool, NoMemory>
+    requires there { AllEquations (text_in store.old) store.old.now.next (equations ∷ []) }
+    requires older { AreOlder fresh (equations_left store.old (equations ∷ [])) }
+    requires young { AreYoung store.old fresh }
+    ensures solved { IfOk result (IsSolved (equations ∷ []) store.old store.new) }
+    ensures kept { OnlyBinds store.old store.new }
+{
+    let mut fresh = fresh;
+    let mut open = equations;
     loop {
-        match arguments_go(open.left, open.right, &mut fresh, store)? {
+        if !solve_first(open, &mut fresh, store)? {
+            return Ok(false);
+        }
+        if open.left.count == 1 {
+            return Ok(true);
+        }
+        open = rest(open);
+    }
+}
+
+/// Makes both sides of the first equation one by further bindings, or answers that none do.
+#[inline(always)]
+fn solve_first(
+    equations: Equations,
+    fresh: &mut Option<u32>,
+    store: &mut Store,
+) -> Result<bool, NoMemory>
+    requires there { AllEquations (text_in store.old) store.old.now.next (equations ∷ []) }
+    requires older { AreOlder fresh.old (equations_left store.old (equations ∷ [])) }
+    requires young { AreYoung store.old fresh.old }
+    ensures solved { IfOk result (SolvesFirst equations store.old store.new) }
+    ensures stays { OnOk result (StaysOlder store.old store.new fresh.old fresh.new) }
+    ensures kept { OnlyBinds store.old store.new }
+    ensures short { (equations.left.at < 2 ^ 32 - 1) × (equations.right.at < 2 ^ 32 - 1) }
+{
+    match arguments_go(equations.left, equations.right, fresh, store)? {
+        Outcome::Clash => Ok(false),
+        Outcome::Solved => Ok(true),
+        Outcome::Inside(inner) => solve_inside(inner, fresh, store),
+    }
+}
+
+/// Makes both sides of equations inside of arguments one, or answers that none do. No list is needed as long as an equation
+/// that is opened is the last one.
+#[inline(always)]
+fn solve_inside(
+    equations: Equations,
+    fresh: &mut Option<u32>,
+    store: &mut Store,
+) -> Result<bool, NoMemory>
+    requires there { AllEquations (text_in store.old) store.old.now.next (equations ∷ []) }
+    requires older { AreOlder fresh.old (equations_left store.old (equations ∷ [])) }
+    requires young { AreYoung store.old fresh.old }
+    ensures solved { IfOk result (IsSolved (equations ∷ []) store.old store.new) }
+    ensures stays { OnOk result (StaysOlder store.old store.new fresh.old fresh.new) }
+    ensures kept { OnlyBinds store.old store.new }
+{
+    let mut open = equations;
+    loop {
+        match arguments_go(open.left, open.right, fresh, store)? {
             Outcome::Clash => return Ok(false),
-            Outcome::Solved => match next_or_waiting(open, &mut waiting) {
-                Some(next) => open = next,
-                None => return Ok(true),
-            },
+            Outcome::Solved => {
+                if open.left.count == 1 {
+                    return Ok(true);
+                }
+                open = rest(open);
+            }
             Outcome::Inside(inner) => {
                 if open.left.count > 1 {
-                    if let Some(last) = waiting {
-                        return store.solve_behind(inner, rest(open), last, fresh);
-                    }
-                    waiting = Some(rest(open));
+                    let from = *fresh;
+                    *fresh = None;
+                    return store.solve_behind(inner, rest(open), from);
                 }
                 open = inner;
             }
         }
     }
-}
-
-/// The equations that are next, once the first of these is solved.
-#[inline(always)]
-fn next_or_waiting(equations: Equations, waiting: &mut Option<Equations>) -> Option<Equations>
-    requires some { (0 < equations.left.count) × (0 < equations.right.count) }
-    requires short { (equations.left.at < 2 ^ 32 - 1) × (equations.right.at < 2 ^ 32 - 1) }
-    ensures { KeepsRestEquations equations (with_waiting waiting.old []) (with_waiting result (with_waiting waiting.new [])) }
-{
-    if equations.left.count == 1 {
-        return waiting.take();
-    }
-    Some(rest(equations))
 }
 
 /// Goes by the rule for the first equation, which mostly is one of two compounds.
@@ -398,7 +450,8 @@ fn compounds_go(left: (u32, u32), right: (u32, u32), store: &Store) -> Outcome
 pub(crate) fn rest(equations: Equations) -> Equations
     requires some { (1 < equations.left.count) × (0 < equations.right.count) }
     requires short { (equations.left.at < 2 ^ 32 - 1) × (equations.right.at < 2 ^ 32 - 1) }
-    ensures { (es : List ArgumentEquations) → KeepsRestEquations equations es (result ∷ es) }
+    ensures kept { (es : List ArgumentEquations) → KeepsRestEquations equations es (result ∷ es) }
+    ensures fewer { result.left.count < equations.left.count }
 {
     let left = rest_of(equations.left);
     // There are as many on the right.

@@ -1,6 +1,4 @@
-use Rattle.std.proofs.Common.{◌≡◌, ◌-◌, ◌∷◌, [], suc, length, slice_index_or, sym, subst, arith}
-use Rattle.au_model.specs.Terms.Each.{Each}
-use Rattle.cell_store.specs.declared.mark.Mark.{Mark}
+use Rattle.std.proofs.Common.{◌≡◌, ◌-◌, ◌∷◌, suc, length, arith}
 use Rattle.cell_store.proofs.UndoingLemmas.{newest}
 use Rattle.cell_store.proofs.mark.protected.Goals as goal
 

@@ -3,8 +3,8 @@ use Rattle.cell_store.specs.declared.arguments.Equations.{Equations as ArgumentE
 use Rattle.cell_store.proofs.RuleLemmas.{rest_equations}
 use Rattle.cell_store.proofs.unify.rest.Goals as goal
 
-pub returns : goal.returns
-returns c = λ es.
+pub returns-clause-kept : goal.returns-clause-kept
+returns-clause-kept c = λ es.
     let e = c.args.equations in
     let left = c.rest_of-left.result in
     let f : ArgumentEquations = record { left = left; right = record { at = e.right.at + 1; base = e.right.base; count = left.count } } in

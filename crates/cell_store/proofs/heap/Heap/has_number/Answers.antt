@@ -1,9 +1,9 @@
-use Rattle.std.proofs.Common.{◌≡◌, ◌<◌, ◌+◌, ◌∙◌, List, ℕ, length, length-append, sym, ap, subst, arith}
+use Rattle.std.proofs.Common.{◌≡◌, ◌<◌, ◌+◌, ◌∙◌, length, length-append, sym, ap, arith}
 use Rattle.std.specs.Arc.{arc_value}
 use Rattle.std.specs.Cmp.Lexicographic.{same_text}
 use Rattle.clause_compile.specs.Places.{CodeView}
 use Rattle.cell_store.specs.HeapView.{HeapView, heap_text}
-use Rattle.cell_store.proofs.HeapGrowthLemmas.{heap_of, there_number}
+use Rattle.cell_store.proofs.HeapGrowthLemmas.{there_number}
 use Rattle.cell_store.proofs.heap.Heap.has_number.Goals as goal
 use Rattle.cell_store.proofs.heap.Heap.has_number.Goals.{After-eq, else-at-program-via-then-at-program+else-at-program-2, else-at-program-via-else-at-program}
 

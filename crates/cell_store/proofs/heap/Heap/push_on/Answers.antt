@@ -1,5 +1,5 @@
-use Rattle.std.proofs.Common.{◌-◌, ◌≡◌, ◌<◌, suc, length, get_or, ap, ◌∙◌, sym, subst, arith}
-use Rattle.au_term.specs.PrefixOrder.{arity, cells_of}
+use Rattle.std.proofs.Common.{◌-◌, ◌≡◌, ◌<◌, suc, length, get_or, ap, ◌∙◌, subst, arith}
+use Rattle.au_term.specs.PrefixOrder.{cells_of}
 use Rattle.au_term.proofs.VariableBoundLemmas.{AreSound-at}
 use Rattle.clause_compile.specs.Places.{AddsCell}
 use Rattle.cell_store.specs.HeapView.{heap_text}

@@ -1,9 +1,9 @@
-use Rattle.std.proofs.Common.{◌≡◌, ◌<◌, ◌≤◌, ◌∙◌, ◌∷◌, ℕ, List, length, slice_index_or, map, sym, ap, subst, arith}
+use Rattle.std.proofs.Common.{◌≡◌, ◌<◌, ◌≤◌, ◌∙◌, ◌∷◌, ℕ, List, length, map, sym, ap, subst, arith}
 use Rattle.std.proofs.lemmas.List.{length-map}
 use Rattle.std.proofs.lemmas.Result.{IfOk-weaker}
 use Rattle.au_model.specs.Terms.Each.{Each}
 use Rattle.cell_store.specs.MadeBindings.{AreMadeSince, AreSinceMark}
-use Rattle.cell_store.specs.StoreView.{StoreView, IsConsistent, IsConsistentAt, moment_at, view_of}
+use Rattle.cell_store.specs.StoreView.{StoreView, IsConsistentAt, moment_at}
 use Rattle.cell_store.specs.Undoing.{Parts, IsWithin}
 use Rattle.cell_store.specs.declared.mark.Mark.{Mark}
 use Rattle.cell_store.proofs.MadeBindingLemmas.{made_since_mark}

@@ -1,7 +1,6 @@
-use Rattle.std.proofs.Common.{◌≡◌, ◌∷◌, [], ◌∙◌, map, refl, ap, sym, subst}
+use Rattle.std.proofs.Common.{◌≡◌, ◌∷◌, [], ◌∙◌, ap, sym, subst}
 use Rattle.cell_store.specs.StoreView.{StoreView, IsConsistent, moment_at, view_of, over_floor}
 use Rattle.cell_store.specs.Undoing.{mark_now}
-use Rattle.cell_store.specs.declared.mark.Mark.{Mark}
 use Rattle.cell_store.proofs.StoreLemmas.{parts, floored_parts, floored_view, none_marked}
 use Rattle.cell_store.proofs.store.Store.set_floor.Goals as goal
 
