@@ -222,8 +222,8 @@ following_made body n records results list second next goals item all e gs is vi
 pub same_made : (body : Body) (second : Branch) (next : ℕ) → body ≡ quiet_body next second.goals next → next ≡ second.segment.base + second.segment.vars → body ≡ same_body second
 same_made body second next e number = e ∙ ap (λ (m : ℕ). quiet_body m second.goals m) number
 
-pub wakes_with : (nodes : NodesView) (closing : Closing) (x : Woken) → NumberedTreesAreSettled → BranchLaws → IsBesideSleeper nodes.rows (place_view closing.end)
+pub wakes_with : (nodes : NodesView) (closing : Closing) (x : Woken) → NumberedTreesAreSettled → BranchLaws → is_waking closing.beside ≡ true → IsBesideSleeper nodes.rows (place_view closing.end)
     → IsWoken nodes.rows (place_view closing.end) (credit_view closing.credit).records x → WakesWith nodes closing x
-wakes_with nodes closing woken.Nothing law laws beside h = absurd h
-wakes_with nodes closing (woken.Body b) law laws beside h = given_for nodes closing (body_view (arc_value b)) law laws beside h
-wakes_with nodes closing woken.OpenResults law laws beside h = h
+wakes_with nodes closing woken.Nothing law laws wakes beside h = absurd h
+wakes_with nodes closing (woken.Body b) law laws wakes beside h = given_for nodes closing (body_view (arc_value b)) law laws beside h
+wakes_with nodes closing woken.OpenResults law laws wakes beside h = (wakes, h)

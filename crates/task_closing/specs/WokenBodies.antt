@@ -102,4 +102,4 @@ pub record IsGivenFor (nodes : NodesView) (closing : Closing) (body : Option Bod
 abbrev pub WakesWith : NodesView → Closing → Woken → Type 0
 WakesWith nodes closing woken.Nothing = IsGivenFor nodes closing None
 WakesWith nodes closing (woken.Body b) = IsGivenFor nodes closing (Some (body_view (arc_value b)))
-WakesWith nodes closing woken.OpenResults = HasOpenResults nodes.rows (place_view closing.end)
+WakesWith nodes closing woken.OpenResults = (is_waking closing.beside ≡ true) × HasOpenResults nodes.rows (place_view closing.end)

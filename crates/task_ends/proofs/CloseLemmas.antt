@@ -64,11 +64,12 @@ module _ (job : Job) (nodes : NodesView) (t : TreeState) (w : ℕ) (a : Place) (
           (sleeps_there closing.beside nodes.rows (place_view closing.end) sleeper waking));
     }
 
-    pub wakes_open : HasOpenResults nodes.rows (place_view closing.end) → WakesOpenResults nodes e w a k t
-    wakes_open open_there = record {
+    pub wakes_open : is_waking closing.beside ≡ true → HasOpenResults nodes.rows (place_view closing.end) → WakesOpenResults nodes e w a k t
+    wakes_open wakes open_there = record {
       end = place_view closing.end;
       total = credit_view closing.credit;
       beside = closing.beside;
       rests = rests_out;
+      wakes = wakes;
       results = open_there;
     }

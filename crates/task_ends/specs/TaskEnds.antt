@@ -8,7 +8,7 @@ use Rattle.tree_model.specs.Legality.{run_of, taken_at}
 use Rattle.tree_model.specs.Levels.{Place, Spot}
 use Rattle.tree_model.specs.TreeStates.{TreeState}
 use Rattle.tree_nodes.specs.TreeTables.{NodesView}
-use Rattle.tree_closing.specs.Closings.{ComesToRest}
+use Rattle.tree_closing.specs.Closings.{ComesToRest, is_waking}
 use Rattle.tree_closing.specs.declared.way_up.Beside.{Beside}
 use Rattle.public_tree.specs.PublicClosing.{closing_event, end_credit, ends_run, record_credit}
 use Rattle.public_tree.specs.declared.closing.TaskEnd.{TaskEnd}
@@ -34,12 +34,13 @@ pub record HasRunOut (nodes : NodesView) (a : Place) (clauses : List Clause) (k 
   pub task : TaskView
   pub stops : StopsThereFor nodes a clauses k task Empty
 
--- what closes with its credit comes to rest below a findall one of whose results has a variable
+-- what closes with its credit comes to rest where a findall wakes, one of whose results has a variable
 pub record WakesOpenResults (nodes : NodesView) (e : TaskEnd) (w : ℕ) (a : Place) (k : ℕ) (t : TreeState) : Type 0 where
   pub end : Place
   pub total : Credit
   pub beside : Beside
   pub rests : (s : Spot) → taken_at w a t ≡ Some s → ComesToRest nodes a (end_credit e k (run_of t s k)) end total beside
+  pub wakes : is_waking beside ≡ true
   pub results : HasOpenResults nodes.rows end
 
 -- it closes where the tree has neither ended nor been stopped; or nothing has happened

@@ -49,5 +49,5 @@ returns-in-OpenResults-clause-closes g c =
     let findall = subst (WakesWith v.nodes closing) c.in-OpenResults.is wakes in (
       refl,
       wakes_open v.history.job v.nodes (state_of v.history) c.args.worker (place_view c.args.at) c.keeps_promises.ensures.nodes.placed
-          c.stays_legal.ensures c.requires.out c.args.inferences c.args.ending.0 c.args.ending.1 closing c.requires.ends c.in_ok-closing.ensures.rests findall,
+          c.stays_legal.ensures c.requires.out c.args.inferences c.args.ending.0 c.args.ending.1 closing c.requires.ends c.in_ok-closing.ensures.rests findall.0 findall.1,
     )
