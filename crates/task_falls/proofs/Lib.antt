@@ -1,0 +1,4 @@
+mod ThrownBallLemmas
+mod CopiedBallLemmas
+mod SpotBallLemmas
+mod FallLemmas
