@@ -21,8 +21,9 @@ use std::sync::Arc;
 use tree_core::{JobBrand, Tree};
 use tree_model::AltRef;
 
-/// A worker lets the ball fall that the first goal of an alternative throws which is out to it: what the ball leaves where it lands goes
-/// on in a node of its own. Nothing happens where the alternative is not cleared to that place, or where the tree has ended or was stopped.
+/// A worker lets a ball fall which the first goal of an alternative throws that is out to it: where the ball lands, what it leaves goes on
+/// in a node of its own. The ball is as the task's stop tells it, with its variables numbered from 0. Nothing happens where the
+/// alternative is not cleared to that place, or where the tree has ended or was stopped.
 pub fn fall_task<J: JobBrand>(
     tree: &mut Tree<J>,
     worker: u32,
