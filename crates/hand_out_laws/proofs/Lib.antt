@@ -1,0 +1,6 @@
+mod TaskCountLemmas
+mod TaskClosingLemmas
+mod GivenBackLemmas
+mod OutEventLemmas
+mod OutHistoryLemmas
+mod OutAndBackLemmas
