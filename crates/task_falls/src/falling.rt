@@ -8,12 +8,8 @@ ghost use Rattle.tree_core.specs.Turns.{where_legal, pruning_of};
 ghost use Rattle.task_gates.specs.StopGates.{IsKeptUntaken};
 ghost use Rattle.task_falls.specs.ThrownBalls.{ThrowsThere};
 
+use crate::landing::land_thrown;
 use au_term::{FlatTerm, NoMemory};
-use ball_landing::land_ball;
-use ball_landing::laws::{copies_are_alike, landings_read, outs_can_land_balls};
-use branch_loading::laws::places_are_levels;
-use branch_reading::laws::numbered_trees_are_settled;
-use branch_shapes::laws::floor_items_stay;
 use public_tree::Pruning;
 use region_split::Text;
 use std::alloc::Global;
@@ -39,14 +35,6 @@ pub fn fall_task<J: JobBrand>(
     ensures kept { IfOk result (λ p. IsKeptUntaken p tree.old.history tree.new.history) }
     ensures err { OnErr result (tree.new.history ≡ tree.old.history) }
 {
-    numbered_trees_are_settled();
-    floor_items_stay();
-    places_are_levels();
-    outs_can_land_balls();
-    copies_are_alike();
-    landings_read();
-    tree.stays_legal();
-    tree.keeps_promises();
-    let landing = land_ball(tree.nodes(), at, alloc, ball, text)?;
+    let landing = land_thrown(tree, worker, at, alloc, ball, text)?;
     tree.fall(worker, at, landing.scope, landing.body)
 }
