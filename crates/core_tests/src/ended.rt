@@ -93,7 +93,7 @@ fn collect_next<J: JobBrand>(
 }
 
 /// Runs what is handed out next up to its first answer, and gives after how many inferences that is.
-fn answer_next<J: JobBrand>(
+pub(crate) fn answer_next<J: JobBrand>(
     alloc: Global,
     tree: &mut Tree<J>,
     text: Arc<Text>,

@@ -7,6 +7,8 @@ mod ended;
 #[cfg(test)]
 mod failing;
 #[cfg(test)]
+mod fallen;
+#[cfg(test)]
 mod gated;
 #[cfg(test)]
 mod hand_runs;
