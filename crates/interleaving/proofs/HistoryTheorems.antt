@@ -42,6 +42,7 @@ end job budget window es below l =
     record {
       text = λ e q. (right e q).0;
       ending = λ e q. (right e q).1;
+      answered = answers_right job budget below t stands;
       counted = λ e q n. pair (counts t) (answers_of job budget, inferences_of job budget) (answers_right job budget below t stands e q)
           ((right e q).2 n);
     }

@@ -23,6 +23,7 @@ pub record KeepsPromises (h : History) : Type 0 where
   -- once ended, it has the sequential text, ending and counts
   pub end : EndsRight h.job h.budget (state_of h)
 
--- these are the answers and inferences of the sequential run, where the tree has ended short of its budget
-abbrev pub AreFinalCounts : History → ℕ × ℕ → Type 0
-AreFinalCounts h counts = (e : RunEnding) → ended (state_of h) ≡ Some e → e ≢ Budget → counts ≡ (answers_of h.job h.budget, inferences_of h.job h.budget)
+-- where the tree has ended, these are the answers of the sequential run, and short of the budget its answers and inferences
+pub record AreFinalCounts (h : History) (counts : ℕ × ℕ) : Type 0 where
+  pub answers : (e : RunEnding) → ended (state_of h) ≡ Some e → counts.0 ≡ answers_of h.job h.budget
+  pub both : (e : RunEnding) → ended (state_of h) ≡ Some e → e ≢ Budget → counts ≡ (answers_of h.job h.budget, inferences_of h.job h.budget)

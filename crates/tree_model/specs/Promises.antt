@@ -21,10 +21,11 @@ pub record KeepsPrefix (job : Job) (budget : ℕ) (t : TreeState) : Type 0 where
   pub text : IsPrefixOf t.world.written (text_of job budget)
   pub world : (s : Spot) → leftmost t ≡ Some s → ended t ≡ None → t.world ≡ (seq job (clock_of (levels_of s))).world
 
--- a tree that has ended has the sequential text and ending, and short of the budget the sequential counts
+-- a tree that has ended has the sequential text, ending and answers, and short of the budget the sequential counts
 pub record EndsRight (job : Job) (budget : ℕ) (t : TreeState) : Type 0 where
   pub text : (e : RunEnding) → ended t ≡ Some e → t.world.written ≡ text_of job budget
   pub ending : (e : RunEnding) → ended t ≡ Some e → e ≡ ending_of job budget
+  pub answered : (e : RunEnding) → ended t ≡ Some e → (counts t).0 ≡ answers_of job budget
   pub counted : (e : RunEnding) → ended t ≡ Some e → e ≢ Budget → counts t ≡ (answers_of job budget, inferences_of job budget)
 
 -- of every budget that a count can reach
