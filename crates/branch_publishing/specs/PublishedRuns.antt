@@ -35,7 +35,8 @@ abbrev pub published_entry : Placement → List BranchItem → CapturedKind → 
 published_entry p deferred Choice a = PlainEntry (published_continuation p deferred a)
 published_entry p deferred (Catch catcher recovery) a = CatchEntry (resolve a.bound catcher) (resolve a.bound recovery)
     (published_continuation p deferred a)
-published_entry p deferred (Findall list results) a = FindallEntry results.items (resolve a.bound list) (published_continuation p deferred a)
+published_entry p deferred (Findall list results) a = FindallEntry (map (resolve a.bound) results.items) (resolve a.bound list)
+    (published_continuation p deferred a)
 
 -- those of a choice point
 abbrev pub published_group : Placement → List BranchItem → MeantChoice → List Entry

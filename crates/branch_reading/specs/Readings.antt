@@ -1,6 +1,6 @@
 -- What an alternative of the shared tree reads as: what is left to do on its branch, by what the nodes on the way down to it
 -- were made from (Warren 1987).
-use Rattle.std.specs.Prelude.{ℕ, ◌+◌, ◌==◌, Bool, cond, List, [], ◌∷◌, Option, Some, None, slice_get}
+use Rattle.std.specs.Prelude.{ℕ, ◌+◌, ◌==◌, Bool, cond, List, [], ◌∷◌, map, Option, Some, None, slice_get}
 use Rattle.au_term.specs.Term.{VarTerm}
 use Rattle.au_model.specs.Terms.Named.{NamedTerm}
 use Rattle.au_model.specs.Terms.Substitutions.{Substitution, resolve}
@@ -51,12 +51,13 @@ items_meant (Collect template scope ∷ items) = CollectMark template (scope_num
 items_meant (Remove id ∷ items) = RemovalItem id.0 ∷ items_meant items
 items_meant (End ball ∷ items) = items_meant items
 
--- what a guard stands for, beside what follows it
+-- what a guard stands for, beside what follows it. The variables of a findall's results are younger than all that is bound on the
+-- branch, so these stay as they are; as they are read here, no reader has to know that
 abbrev pub guard_meant : BodyKind → Substitution → Continuation ℕ → Entry
 guard_meant ChoiceBody s f = PlainEntry f
 guard_meant ConditionBody s f = PlainEntry f
 guard_meant (CatchBody catcher recovery) s f = CatchEntry (resolve s catcher) (resolve s recovery) f
-guard_meant (FindallBody results list) s f = FindallEntry results (resolve s list) f
+guard_meant (FindallBody results list) s f = FindallEntry (map (resolve s) results) (resolve s list) f
 guard_meant QueryBody s f = PlainEntry f
 
 -- the second alternative of a guard

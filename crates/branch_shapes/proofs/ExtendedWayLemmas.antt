@@ -29,6 +29,10 @@ module _ (s t : Substitution) (h : (v : ℕ) → value_of s v ≡ value_of t v) 
   same_term : (u : Term) → resolve s u ≡ resolve t u
   same_term = apply-same (value_of s) (value_of t) h
 
+  same_terms : (us : List Term) → map (resolve s) us ≡ map (resolve t) us
+  same_terms [] = refl
+  same_terms (u ∷ us) = ap₂ (λ w ws. w ∷ ws) (same_term u) (same_terms us)
+
   same_item : (i : Item ℕ) → resolve_item s i ≡ resolve_item t i
   same_item (GoalItem u c) = ap (λ w. GoalItem w c) (same_term u)
   same_item (CatchMark c) = refl
@@ -51,7 +55,7 @@ module _ (s t : Substitution) (h : (v : ℕ) → value_of s v ≡ value_of t v) 
   same_guard ChoiceBody f = refl
   same_guard ConditionBody f = refl
   same_guard (CatchBody catcher recovery) f = ap₂ (λ c r. CatchEntry c r f) (same_term catcher) (same_term recovery)
-  same_guard (FindallBody results list) f = ap (λ l. FindallEntry results l f) (same_term list)
+  same_guard (FindallBody results list) f = ap₂ (λ rs l. FindallEntry rs l f) (same_terms results) (same_term list)
   same_guard QueryBody f = refl
 
   same_beside : (kind : BodyKind) (i : ℕ) (f : Continuation ℕ) → entry_beside kind i s f ≡ entry_beside kind i t f

@@ -15,7 +15,7 @@ use Rattle.branch_bindings.specs.ExtensionLaws.{NothingExtends}
 use Rattle.region_split.specs.QueryEnds.{IsEnd}
 use Rattle.region_split.specs.Regions.{RegionView, heights_of, items_here, IsPositionIn, AreAlternativesIn}
 use Rattle.region_split.specs.StackOperations.{TakesNewest}
-use Rattle.region_split.specs.ResultLists.{ResultsView}
+use Rattle.region_split.specs.ResultLists.{ResultsView, IsNumberedFrom}
 use Rattle.region_split.specs.declared.choice.Alternatives.{Alternatives}
 use Rattle.region_split.specs.declared.choice.Alternatives.TheVariants.{Elsewhere, Catch as CatchOf, Findall as FindallOf}
 use Rattle.region_split.specs.declared.choice.ChoicePoint.{ChoicePoint}
@@ -109,18 +109,25 @@ module _ (r : RegionView) (after : Position) (next : ℕ) (valid : IsValidStore 
         (value_below catcher ball x.next v.0 ball_is most, value_below recovery goal x.next v.1 goal_is most);
   }
 
+  -- what is bound does not reach the results
+  results_stay : (ts : List Term) → Each (IsNumberedFrom r.store.now.next) ts → map (resolve r.store.now.bound) ts ≡ ts
+  results_stay [] h = refl
+  results_stay (t ∷ ts) h = ap₂ (λ u us. u ∷ us) (h.0 r.store.now.bound valid.new) (results_stay ts h.1)
+
   pub findall_captured : (list : BindingCell) (results : ResultsView) (whole : Term) (terms : Vec Term Global) → next ≡ results.next → whole ≡ value_term r.store list → terms.items ≡ results.terms → a ≡ FindallOf list results
       → CapturesGroup r r lists more a after (Findall whole terms) taken
   findall_captured list results whole terms same whole_is terms_are is =
       let v = subst (AreAlternativesIn r) is values in
       let most : r.store.now.next ≤ results.next = v.1.next in
+      let same_results : results.terms ≡ map (resolve r.store.now.bound) terms.items
+      = sym (results_stay results.terms v.1.above) ∙ ap (map (resolve r.store.now.bound)) (sym terms_are) in
       record {
         captures =
             following_captured r after next valid nothing there (omega (arith, same, most)) (Findall whole terms) a lists more taken
             (λ named.
             ap (λ b. entries_here r b after named) is
-            ∙ (ap₂ (λ t ts. FindallEntry ts (resolve r.store.now.bound t) (goes_on named results.next) ∷ []) (sym whole_is) (sym terms_are)
-            ∙ ap (λ n. FindallEntry terms.items (resolve r.store.now.bound whole) (goes_on named n) ∷ []) (sym same))) f;
+            ∙ (ap₂ (λ t ts. FindallEntry ts (resolve r.store.now.bound t) (goes_on named results.next) ∷ []) (sym whole_is) same_results
+            ∙ ap (λ n. FindallEntry (map (resolve r.store.now.bound) terms.items) (resolve r.store.now.bound whole) (goes_on named n) ∷ []) (sym same))) f;
         alone = one;
         guard = λ g. one;
         terms = λ x e.

@@ -41,7 +41,7 @@ module _ (next cut : ℕ) (hs ks : List ℕ) (agree : AgreeUpTo cut hs ks) where
   pub same_entry : (kind : CapturedKind) (named : List NamedTerm) (m : MeantAlternative) → Each (IsItemOver next cut) m.items → meant_entry kind hs named m ≡ meant_entry kind ks named m
   same_entry Choice named m o = ap PlainEntry (same_continuation named m o)
   same_entry (Catch catcher recovery) named m o = ap (CatchEntry (resolve m.bound catcher) (resolve m.bound recovery)) (same_continuation named m o)
-  same_entry (Findall list results) named m o = ap (FindallEntry results.items (resolve m.bound list)) (same_continuation named m o)
+  same_entry (Findall list results) named m o = ap (FindallEntry (map (resolve m.bound) results.items) (resolve m.bound list)) (same_continuation named m o)
 
 module _ (lists : ItemLists) (before : Substitution) (first cut : ℕ) where
   pub same_entries : (kind : CapturedKind) (hs ks : List ℕ) (named : List NamedTerm) (taken : List CapturedAlternative) (ms : List MeantAlternative) → AgreeUpTo cut hs ks → AreMeant lists before first cut taken ms → map (meant_entry kind hs named) ms ≡ map (meant_entry kind ks named) ms

@@ -32,7 +32,7 @@ meant_continuation heights named a = resolve_continuation a.bound (record { item
 abbrev pub meant_entry : CapturedKind → List ℕ → List NamedTerm → MeantAlternative → Entry
 meant_entry Choice heights named a = PlainEntry (meant_continuation heights named a)
 meant_entry (Catch catcher recovery) heights named a = CatchEntry (resolve a.bound catcher) (resolve a.bound recovery) (meant_continuation heights named a)
-meant_entry (Findall list results) heights named a = FindallEntry results.items (resolve a.bound list) (meant_continuation heights named a)
+meant_entry (Findall list results) heights named a = FindallEntry (map (resolve a.bound) results.items) (resolve a.bound list) (meant_continuation heights named a)
 
 -- the variables of what a catch or a findall has are below a number
 abbrev pub IsKindBelow : ℕ → CapturedKind → Type 0

@@ -1,6 +1,5 @@
 -- A body that was made of what sleeps beside a place reads as what wakes there.
-use Rattle.std.proofs.Common.{◌≡◌, ◌⊎◌, ℕ, zero, suc, ◌+◌, ◌<◌, get_or, arith, Bool, true, false, List, [], ◌∷◌, ◌++◌, length, Option, Some, None, slice_get, refl, sym, ap, ◌∙◌, subst}
-use Rattle.std.specs.Arc.{arc_value}
+use Rattle.std.proofs.Common.{◌≡◌, ◌⊎◌, ℕ, zero, suc, ◌+◌, ◌<◌, get_or, arith, Bool, true, false, IfOk, Result, Ok, Err, List, [], ◌∷◌, ◌++◌, length, Option, Some, None, slice_get, refl, sym, ap, ◌∙◌, subst}
 use Rattle.std.specs.Option.{option_map}
 use Rattle.std.specs.Prelude.{IsSome}
 use Rattle.au_term.specs.Term.{Term}
@@ -12,7 +11,7 @@ use Rattle.tree_model.specs.Levels.{Level, Place, plug}
 use Rattle.tree_model.specs.Nodes.{Dormant, none, Status, Pending}
 use Rattle.tree_model.specs.NumberedTrees.{IsNumberedStatus}
 use Rattle.tree_model.specs.SoundTrees.{IsSound}
-use Rattle.tree_nodes.specs.Bodies.{Body, BodyKind, ChoiceBody, ConditionBody, CatchBody, FindallBody, QueryBody, Branching, Reading, body_view}
+use Rattle.tree_nodes.specs.Bodies.{Body, BodyKind, ChoiceBody, ConditionBody, CatchBody, FindallBody, QueryBody, Branching, Reading}
 use Rattle.tree_nodes.specs.Rows.{AlternativeCell, PendingCell, InnerCell, StoredNode, Rows, row_of_node, cell_at, credit_view}
 use Rattle.tree_nodes.specs.TreeTables.{cells_of, NodesView, IsTableOf, above_of}
 use Rattle.tree_nodes.proofs.AddLemmas.{way_to}
@@ -30,9 +29,7 @@ use Rattle.branch_reading.specs.SettledWays.{is_way_settled}
 use Rattle.public_tree.specs.PublicClosing.{HasSingle, ReadsAs}
 use Rattle.region_split.specs.ResultLists.{ResultsView}
 use Rattle.task_closing.specs.GatheredResults.{gathered, unifying_item}
-use Rattle.task_closing.specs.WokenBodies.{HasFreeResults, IsGivenFor, IsMadeWoken, IsNoCatch, IsWoken, WakesWith, quiet_body, same_body, woken_by}
-use Rattle.task_closing.specs.declared.woken.Woken.{Woken}
-use Rattle.task_closing.specs.declared.woken.Woken.TheVariants as woken
+use Rattle.task_closing.specs.WokenBodies.{IsGivenFor, IsMadeWoken, IsNoCatch, quiet_body, same_body, woken_by}
 use Rattle.task_closing.proofs.QuietLemmas.{BranchLaws}
 use Rattle.task_closing.proofs.SameWayLemmas.{ways_same}
 use Rattle.task_closing.proofs.WokenReadingLemmas.{woken_reads}
@@ -132,7 +129,7 @@ module _ (nodes : NodesView) (b : Place) (records : List Term) (body : Body) (m 
         let on : placed.way ≡ (m.row.body, 1) ∷ above_here = way_is ∙ same in
         ap (λ (x : Body). reading job ((x, 0) ∷ (m.row.body, 1) ∷ above_here)) m.made
         ∙ woken_reads laws job m.row.body above_here m.second m.there b.node records sleeper.entry (settled.reads ∙ ap (reading job) on)
-        (subst (λ (w : Branching). (is_way_settled w ≡ true) ⊎ IsEndOn w) on settled.settled) sleeps m.closed (λ catcher recovery is. no_catch m.row m.is catcher recovery is)
+        (subst (λ (w : Branching). (is_way_settled w ≡ true) ⊎ IsEndOn w) on settled.settled) sleeps (λ catcher recovery is. no_catch m.row m.is catcher recovery is)
 
     pub reads_woken : ReadsWoken (reading job) nodes.rows b records body
     reads_woken r up above there_is parent_is on hang =
@@ -196,9 +193,9 @@ second_within (x ∷ y ∷ cells) h = omega arith
 
 -- by what was asked of the nodes
 pub made_woken : (rows : Rows) (a : Place) (records : List Term) (body b : Body) (second : Branch) (k : BodyKind)
-    → option_map (λ (r : StoredNode). r.body) (row_of_node rows a.node) ≡ Some b → slice_get b.branches 1 ≡ Some second → b.kind ≡ k → HasFreeResults k
+    → option_map (λ (r : StoredNode). r.body) (row_of_node rows a.node) ≡ Some b → slice_get b.branches 1 ≡ Some second → b.kind ≡ k
     → body ≡ woken_by a.node records k second → IsMadeWoken rows a records body
-made_woken rows a records body b second k e there kind free made =
+made_woken rows a records body b second k e there kind made =
     let r = row_of_body (row_of_node rows a.node) b e in
     let kinds : r.0.body.kind ≡ k = ap (λ (x : Body). x.kind) r.1.1 ∙ kind in
     record {
@@ -206,7 +203,6 @@ made_woken rows a records body b second k e there kind free made =
       is = r.1.0;
       second = second;
       there = ap (λ (x : Body). slice_get x.branches 1) r.1.1 ∙ there;
-      closed = subst HasFreeResults (sym kinds) free;
       made = made ∙ ap (λ (x : BodyKind). woken_by a.node records x second) (sym kinds);
     }
 
@@ -219,11 +215,9 @@ following_made body n records results list second next goals item all e gs is vi
     ∙ (ap (λ (x : ResultsView). quiet_body next (unifying_item n list x.terms ∷ second.goals) x.next) view
     ∙ ap (λ (m : ℕ). (let g = gathered records (record { terms = results; next = m }) in quiet_body m (unifying_item n list g.terms ∷ second.goals) g.next)) number))
 
+pub if_ok : {A E : Type 0} (r : Result A E) (P Q : A → Type 0) → IfOk r P → ((a : A) → P a → Q a) → IfOk r Q
+if_ok (Ok a) P Q h f = f a h
+if_ok (Err e) P Q h f = tt
+
 pub same_made : (body : Body) (second : Branch) (next : ℕ) → body ≡ quiet_body next second.goals next → next ≡ second.segment.base + second.segment.vars → body ≡ same_body second
 same_made body second next e number = e ∙ ap (λ (m : ℕ). quiet_body m second.goals m) number
-
-pub wakes_with : (nodes : NodesView) (closing : Closing) (x : Woken) → NumberedTreesAreSettled → BranchLaws → is_waking closing.beside ≡ true → IsBesideSleeper nodes.rows (place_view closing.end)
-    → IsWoken nodes.rows (place_view closing.end) (credit_view closing.credit).records x → WakesWith nodes closing x
-wakes_with nodes closing woken.Nothing law laws wakes beside h = absurd h
-wakes_with nodes closing (woken.Body b) law laws wakes beside h = given_for nodes closing (body_view (arc_value b)) law laws beside h
-wakes_with nodes closing woken.OpenResults law laws wakes beside h = (wakes, h)

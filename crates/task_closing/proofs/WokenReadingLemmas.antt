@@ -5,7 +5,6 @@ use Rattle.std.specs.List.{list_all}
 use Rattle.std.specs.Prelude.{codes}
 use Rattle.au_term.proofs.LogicLemmas.{and-left, and-right, and-both}
 use Rattle.au_term.specs.Term.{Term, var_bound}
-use Rattle.au_model.proofs.EachLemmas.{each-more}
 use Rattle.au_model.specs.Terms.Each.{Each}
 use Rattle.au_model.specs.Terms.Forms.{binary, list_term}
 use Rattle.au_model.specs.Terms.Substitutions.{Substitution, resolve}
@@ -24,10 +23,10 @@ use Rattle.branch_reading.specs.BranchSegments.{above_in_query, next_number, own
 use Rattle.branch_reading.specs.NumberedReadings.{IsEndOn}
 use Rattle.branch_reading.specs.Readings.{continuation_on, entry_if, entry_meant, entry_on, guard_meant, items_meant, named_of, query_on, reading}
 use Rattle.branch_reading.specs.SettledWays.{branch_items, is_branch_settled, is_guard_settled, is_item_settled, is_term_below, is_way_settled, items_on}
-use Rattle.region_split.specs.ResultLists.{ResultsView, IsNumberedFrom, AreResultsFrom}
+use Rattle.region_split.specs.ResultLists.{ResultsView}
 use Rattle.task_closing.specs.GatheredResults.{gathered, unifying_item}
-use Rattle.task_closing.specs.WokenBodies.{are_variable_free, quiet_body, same_body, following_body, woken_by, HasFreeResults}
-use Rattle.task_closing.proofs.GatheredLemmas.{gathered_entry, gathered_from, gathered_more, free_each, list_left, list_bound}
+use Rattle.task_closing.specs.WokenBodies.{quiet_body, same_body, following_body, woken_by}
+use Rattle.task_closing.proofs.GatheredLemmas.{gathered_entry, gathered_below, gathered_more, gathered_bound, list_resolved, list_bound}
 use Rattle.task_closing.proofs.QuietLemmas.{BranchLaws, bound_on, free_from_next, quiet_reads}
 
 term_below : (n : ℕ) (t : Term) → is_term_below n t ≡ true → var_bound t ≤ n
@@ -102,9 +101,13 @@ module _ (laws : BranchLaws) (job : Job) (b : Body) (above : Branching) (second 
         ap (λ is. entry_meant (items_on way) (entry_if is (entry_on job way))) settled
         ∙ (no_end_among next (items_on way) (entry_on job way) own_items ∙ ap (λ x. guard_meant x s following) e)
 
-    module _ (results : List Term) (list : Term) (kind : b.kind ≡ FindallBody results list) (closed : are_variable_free results ≡ true) where
+    module _ (results : List Term) (list : Term) (kind : b.kind ≡ FindallBody results list) where
       abbrev all : ResultsView
       all = gathered records (record { terms = results; next = next })
+
+      -- with what the branch binds
+      abbrev read : ResultsView
+      read = gathered records (record { terms = map (resolve s) results; next = next })
 
       guard_settled : (list_all (is_term_below next) results && is_term_below next list) ≡ true
       guard_settled =
@@ -112,12 +115,8 @@ module _ (laws : BranchLaws) (job : Job) (b : Body) (above : Branching) (second 
           ∙ and-right (list_all (is_item_settled next) (items_on way)) (is_guard_settled next b.kind)
           (and-right _ (is_branch_settled next b.kind 1 (items_on way)) settled)
 
-      from_next : AreResultsFrom next all
-      from_next = gathered_from next records (record { terms = results; next = next }) (record {
-        next = omega arith;
-        above = free_each next results closed;
-        below = all_below next results (and-left _ (is_term_below next list) guard_settled);
-      })
+      terms_below : Each (λ t. var_bound t ≤ all.next) all.terms
+      terms_below = gathered_below records (record { terms = results; next = next }) (all_below next results (and-left _ (is_term_below next list) guard_settled))
 
       more : next ≤ all.next
       more = gathered_more records (record { terms = results; next = next })
@@ -125,7 +124,7 @@ module _ (laws : BranchLaws) (job : Job) (b : Body) (above : Branching) (second 
       goal_below : is_term_below all.next (binary (codes "=") list (list_term all.terms)) ≡ true
       goal_below =
           let a : var_bound list ≤ next = term_below next list (and-right (list_all (is_term_below next) results) _ guard_settled) in
-          let c : var_bound (list_term all.terms) ≤ all.next = list_bound all.next all.terms from_next.below in
+          let c : var_bound (list_term all.terms) ≤ all.next = list_bound all.next all.terms terms_below in
           let m : next ≤ all.next = more in
           below_term all.next (binary (codes "=") list (list_term all.terms)) (omega (arith, a, c, m))
 
@@ -134,10 +133,14 @@ module _ (laws : BranchLaws) (job : Job) (b : Body) (above : Branching) (second 
           and-both _ _ goal_below
           (items_below next all.next second.goals more (subst (λ is. list_all (is_item_settled next) is ≡ true) items_are own_items))
 
-      terms_left : resolve s (list_term all.terms) ≡ list_term all.terms
-      terms_left =
-          list_left s all.terms
-          (each-more (IsNumberedFrom next) (λ t. resolve s t ≡ t) (λ t h. h s (free_from_next laws way settled)) all.terms from_next.above)
+      read_is : read ≡ record { terms = map (resolve s) all.terms; next = all.next }
+      read_is = gathered_bound s records (record { terms = results; next = next }) (free_from_next laws way settled)
+
+      list_read : resolve s (list_term all.terms) ≡ list_term read.terms
+      list_read = list_resolved s all.terms ∙ ap (λ (r : ResultsView). list_term r.terms) (sym read_is)
+
+      same_next : all.next ≡ read.next
+      same_next = ap (λ (r : ResultsView). r.next) (sym read_is)
 
       abbrev made : Continuation ℕ
       made = record { items = items_meant (unifying_item n list all.terms ∷ second.goals); named = named_of (query_on job way); next = all.next }
@@ -146,14 +149,15 @@ module _ (laws : BranchLaws) (job : Job) (b : Body) (above : Branching) (second 
           ≡ quiet_body next (unifying_item n list all.terms ∷ second.goals) all.next
       body_is = ap (λ m. (let g = gathered records (record { terms = results; next = m }) in quiet_body m (unifying_item n list g.terms ∷ second.goals) g.next)) (sym next_is)
 
-      made_is : resolve_continuation s made ≡ before (GoalItem (binary (codes "=") (resolve s list) (list_term all.terms)) n ∷ []) (with_next all.next following)
+      made_is : resolve_continuation s made ≡ before (GoalItem (binary (codes "=") (resolve s list) (list_term read.terms)) n ∷ []) (with_next read.next following)
       made_is =
           ap₂ (λ (t : Term) (is : List (Item ℕ)). (let f : Continuation ℕ = record { items = GoalItem (binary (codes "=") (resolve s list) t) n ∷ map (resolve_item s) is; named = following.named; next = all.next } in f))
-          terms_left (ap items_meant (sym items_are))
+          list_read (ap items_meant (sym items_are))
+          ∙ ap (λ m. before (GoalItem (binary (codes "=") (resolve s list) (list_term read.terms)) n ∷ []) (with_next m following)) same_next
 
-      goes_on : findall_goes_on n (with_results records (FindallEntry results (resolve s list) following))
-          ≡ PlainEntry (before (GoalItem (binary (codes "=") (resolve s list) (list_term all.terms)) n ∷ []) (with_next all.next following))
-      goes_on = ap (findall_goes_on n) (gathered_entry records (record { terms = results; next = next }) (resolve s list) following)
+      goes_on : findall_goes_on n (with_results records (FindallEntry (map (resolve s) results) (resolve s list) following))
+          ≡ PlainEntry (before (GoalItem (binary (codes "=") (resolve s list) (list_term read.terms)) n ∷ []) (with_next read.next following))
+      goes_on = ap (findall_goes_on n) (gathered_entry records (record { terms = map (resolve s) results; next = next }) (resolve s list) following)
 
       pub findall_wakes : reading job ((following_body n list second (gathered records (record { terms = results; next = second.segment.base + second.segment.vars })), 0) ∷ way)
           ≡ woken_entry n records (reading job way)
@@ -171,22 +175,22 @@ module _ (laws : BranchLaws) (job : Job) (b : Body) (above : Branching) (second 
     no_plain : (ball : Option Term) (f : Continuation ℕ) → Some e ≡ Some (EndEntry ball) → reading job way ≡ PlainEntry f → ⊥
     no_plain ball f is plain = let wrong : Some (PlainEntry f) ≡ Some (EndEntry ball) = ap Some (sym plain ∙ sym reads) ∙ is in cc
 
-    by_kind : (k : BodyKind) → b.kind ≡ k → IsSleeping (sleeping_of k) (Some e) → HasFreeResults k → ((catcher recovery : Term) → k ≡ CatchBody catcher recovery → ⊥)
+    by_kind : (k : BodyKind) → b.kind ≡ k → IsSleeping (sleeping_of k) (Some e) → ((catcher recovery : Term) → k ≡ CatchBody catcher recovery → ⊥)
         → reading job ((woken_by n records k second, 0) ∷ way) ≡ woken_entry n records (reading job way)
-    by_kind ChoiceBody is asleep closed none = absurd (cc asleep)
-    by_kind ConditionBody is asleep closed none = absurd (cc asleep)
-    by_kind (CatchBody catcher recovery) is asleep closed none = absurd (none catcher recovery refl)
-    by_kind (FindallBody results list) is asleep closed none = by_case settled
+    by_kind ChoiceBody is asleep none = absurd (cc asleep)
+    by_kind ConditionBody is asleep none = absurd (cc asleep)
+    by_kind (CatchBody catcher recovery) is asleep none = absurd (none catcher recovery refl)
+    by_kind (FindallBody results list) is asleep none = by_case settled
       where
         by_case : (is_way_settled way ≡ true) ⊎ IsEndOn way → reading job ((woken_by n records (FindallBody results list) second, 0) ∷ way) ≡ woken_entry n records (reading job way)
-        by_case (inl h) = findall_wakes h results list is closed
+        by_case (inl h) = findall_wakes h results list is
         by_case (inr end) = absurd (no_end asleep.0 asleep.1.0 asleep.1.1.0 asleep.1.1.1 end)
-    by_kind QueryBody is asleep closed none = by_case settled
+    by_kind QueryBody is asleep none = by_case settled
       where
         by_case : (is_way_settled way ≡ true) ⊎ IsEndOn way → reading job ((woken_by n records QueryBody second, 0) ∷ way) ≡ woken_entry n records (reading job way)
         by_case (inl h) = absurd (no_plain asleep.0 (following h) asleep.1 (sleeper_reads h QueryBody is))
         by_case (inr end) = end_wakes end
 
-    pub woken_reads : IsSleeping (sleeping_of b.kind) (Some e) → HasFreeResults b.kind → ((catcher recovery : Term) → b.kind ≡ CatchBody catcher recovery → ⊥)
+    pub woken_reads : IsSleeping (sleeping_of b.kind) (Some e) → ((catcher recovery : Term) → b.kind ≡ CatchBody catcher recovery → ⊥)
         → reading job ((woken_by n records b.kind second, 0) ∷ way) ≡ woken_entry n records (reading job way)
     woken_reads = by_kind b.kind refl

@@ -1,8 +1,6 @@
 -- What wakes beside an alternative that has closed, as the body of a node of one branch.
-use Rattle.std.specs.Prelude.{◌≡◌, ℕ, ◌+◌, ◌==◌, Bool, true, false, IsTrue, List, [], ◌∷◌, Option, Some, None, slice_get}
-use Rattle.std.specs.Arc.{arc_value}
-use Rattle.std.specs.List.{list_all}
-use Rattle.au_term.specs.Term.{Term, var_bound}
+use Rattle.std.specs.Prelude.{◌≡◌, ℕ, ◌+◌, true, List, [], ◌∷◌, Option, Some, slice_get}
+use Rattle.au_term.specs.Term.{Term}
 use Rattle.clause_compile.specs.declared.event.Branch.{Branch}
 use Rattle.clause_compile.specs.declared.item.Item.{Item as BranchItem}
 use Rattle.run_model.specs.Programs.Jobs.{Job}
@@ -11,7 +9,7 @@ use Rattle.tree_model.specs.Levels.{Place}
 use Rattle.tree_model.specs.Nodes.{Status}
 use Rattle.tree_model.specs.NumberedTrees.{IsNumberedStatus}
 use Rattle.tree_model.specs.SoundTrees.{IsSound}
-use Rattle.tree_nodes.specs.Bodies.{Body, BodyKind, ChoiceBody, ConditionBody, CatchBody, FindallBody, QueryBody, body_view}
+use Rattle.tree_nodes.specs.Bodies.{Body, BodyKind, ChoiceBody, ConditionBody, CatchBody, FindallBody, QueryBody}
 use Rattle.tree_nodes.specs.Rows.{StoredNode, Rows, row_of_node, credit_view}
 use Rattle.tree_nodes.specs.TreeTables.{NodesView, IsTableOf}
 use Rattle.tree_closing.specs.Closings.{is_waking}
@@ -20,15 +18,6 @@ use Rattle.branch_reading.specs.Readings.{reading}
 use Rattle.public_tree.specs.PublicClosing.{IsBodyGiven, ReadsAs}
 use Rattle.region_split.specs.ResultLists.{ResultsView}
 use Rattle.task_closing.specs.GatheredResults.{gathered, unifying_item}
-use Rattle.task_closing.specs.declared.woken.Woken.{Woken}
-use Rattle.task_closing.specs.declared.woken.Woken.TheVariants as woken
-
--- terms without variables
-abbrev pub is_variable_free : Term → Bool
-is_variable_free t = var_bound t == 0
-
-abbrev pub are_variable_free : List Term → Bool
-are_variable_free ts = list_all is_variable_free ts
 
 -- one branch that has goals and binds nothing, from one next variable number to another
 abbrev pub quiet_body : ℕ → List BranchItem → ℕ → Body
@@ -55,37 +44,13 @@ woken_by n records (FindallBody results list) b =
     following_body n list b (gathered records (record { terms = results; next = b.segment.base + b.segment.vars }))
 woken_by n records QueryBody b = same_body b
 
--- a findall that has results has closed ones
-abbrev pub HasFreeResults : BodyKind → Type 0
-HasFreeResults ChoiceBody = Unit {0}
-HasFreeResults ConditionBody = Unit {0}
-HasFreeResults (CatchBody catcher recovery) = Unit {0}
-HasFreeResults (FindallBody results list) = IsTrue (are_variable_free results)
-HasFreeResults QueryBody = Unit {0}
-
 -- a body is made of what sleeps at a node
 pub record IsMadeWoken (rows : Rows) (a : Place) (records : List Term) (body : Body) : Type 0 where
   pub row : StoredNode
   pub is : row_of_node rows a.node ≡ Some row
   pub second : Branch
   pub there : slice_get row.body.branches 1 ≡ Some second
-  pub closed : HasFreeResults row.body.kind
   pub made : body ≡ woken_by a.node records row.body.kind second
-
--- a node is of a findall that has a result with a variable
-pub record HasOpenResults (rows : Rows) (a : Place) : Type 0 where
-  pub row : StoredNode
-  pub is : row_of_node rows a.node ≡ Some row
-  pub results : List Term
-  pub list : Term
-  pub kind : row.body.kind ≡ FindallBody results list
-  pub some : are_variable_free results ≡ false
-
--- what sleeps beside a place has woken
-abbrev pub IsWoken : Rows → Place → List Term → Woken → Type 0
-IsWoken rows a records woken.Nothing = ⊥
-IsWoken rows a records (woken.Body b) = IsMadeWoken rows a records (body_view (arc_value b))
-IsWoken rows a records woken.OpenResults = HasOpenResults rows a
 
 -- no recovery sleeps at a node
 abbrev pub IsNoCatch : Rows → Place → Type 0
@@ -98,8 +63,3 @@ pub record IsGivenFor (nodes : NodesView) (closing : Closing) (body : Option Bod
   pub reads : (job : Job) (root : Status) → IsTableOf nodes (reading job) root → IsSound [] root → IsNumberedStatus root
       → (is_waking closing.beside ≡ true → IsNoCatch nodes.rows (place_view closing.end))
       → ReadsAs (reading job) nodes.rows (place_view closing.end) (credit_view closing.credit).records (is_waking closing.beside) body
-
-abbrev pub WakesWith : NodesView → Closing → Woken → Type 0
-WakesWith nodes closing woken.Nothing = IsGivenFor nodes closing None
-WakesWith nodes closing (woken.Body b) = IsGivenFor nodes closing (Some (body_view (arc_value b)))
-WakesWith nodes closing woken.OpenResults = (is_waking closing.beside ≡ true) × HasOpenResults nodes.rows (place_view closing.end)

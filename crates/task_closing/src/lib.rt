@@ -8,4 +8,4 @@ mod gather;
 pub mod laws;
 mod woken;
 
-pub use woken::{Woken, woken_body};
+pub use woken::woken_body;

@@ -5,10 +5,11 @@ ghost use Rattle.tree_model.specs.EventViews.{place_view};
 ghost use Rattle.tree_nodes.specs.Bodies.{body_view};
 ghost use Rattle.tree_closing.specs.Closings.{HasSleeper};
 ghost use Rattle.tree_closing.specs.Sleeping.{IsBesideSleeper};
-ghost use Rattle.task_closing.specs.WokenBodies.{are_variable_free, quiet_body, IsWoken, WakesWith};
+ghost use Rattle.public_tree.specs.Opening.{opening_body};
+ghost use Rattle.task_closing.specs.WokenBodies.{quiet_body, IsGivenFor, IsMadeWoken};
 
 use crate::gather::{gather, list_item};
-use au_term::{Bindings, FlatTerm, NoMemory, Segment, VarNo};
+use au_term::{Bindings, NoMemory, Segment, VarNo};
 use branch_reading::laws::numbered_trees_are_settled;
 use branch_shapes::laws::{branches_read_bound, settled_segments_bind};
 use clause_compile::{Branch, Goals};
@@ -18,34 +19,28 @@ use tree_closing::{Beside, Closing, body_of_one};
 use tree_model::AltRef;
 use tree_nodes::{NodeBody, NodeKind, Nodes, Records};
 
-/// What goes on beside an alternative in which a closing rests.
-#[derive(Drop)]
-pub enum Woken {
-    Nothing,
-    /// What slept there, in a node of this body.
-    Body(Arc<NodeBody>),
-    /// A findall one of whose results has a variable.
-    OpenResults,
-}
-
-/// What wakes where a closing rests: the end of a query as it was, or what follows a findall, behind a goal that unifies its list
-/// with the results and the records.
-pub fn woken_body(nodes: &Nodes, alloc: Global, closing: &Closing) -> Result<Woken, NoMemory>
+/// The body of the node in which what wakes where a closing rests goes on: the end of a query as it was, or what follows a findall,
+/// behind a goal that unifies its list with the results and the records. None where nothing wakes.
+pub fn woken_body(
+    nodes: &Nodes,
+    alloc: Global,
+    closing: &Closing,
+) -> Result<Option<Arc<NodeBody>>, NoMemory>
     requires sleeper { HasSleeper closing.now.beside nodes.now.rows (place_view closing.now.end) }
-    ensures { IfOk result (WakesWith nodes.now closing.now) }
+    ensures { IfOk result (λ woken. IsGivenFor nodes.now closing.now (opening_body woken)) }
 {
     numbered_trees_are_settled();
     settled_segments_bind();
     branches_read_bound();
     match closing.beside {
-        Beside::Same | Beside::Closes => Ok(Woken::Nothing),
+        Beside::Same | Beside::Closes => Ok(None),
         Beside::Gathers => {
             let woken = body_beside(nodes, alloc, closing.end, &closing.credit.records)?;
-            Ok(woken)
+            Ok(Some(woken))
         }
         Beside::Ends => {
             let woken = body_beside(nodes, alloc, closing.end, &closing.credit.records)?;
-            Ok(woken)
+            Ok(Some(woken))
         }
     }
 }
@@ -56,9 +51,9 @@ fn body_beside(
     alloc: Global,
     at: AltRef,
     records: &Records,
-) -> Result<Woken, NoMemory>
+) -> Result<Arc<NodeBody>, NoMemory>
     requires { IsBesideSleeper nodes.now.rows (place_view at) }
-    ensures { IfOk result (IsWoken nodes.now.rows (place_view at) records.now) }
+    ensures { IfOk result (λ woken. IsMadeWoken nodes.now.rows (place_view at) records.now (body_view (arc_value woken))) }
 {
     let body = nodes.body(at.node);
     let second = &body.branches[1];
@@ -67,19 +62,16 @@ fn body_beside(
     };
     match &body.kind {
         NodeKind::Findall { results, list } => {
-            if !are_variable_free(results) {
-                return Ok(Woken::OpenResults);
-            }
             let records = records.copied(alloc)?;
             let all = gather(alloc, results, &records, next)?;
             let item = list_item(alloc, at.node, list, &all.terms)?;
             let goals = second.goals.push(alloc, item)?;
-            Ok(Woken::Body(quiet_body(alloc, next, goals, all.next)?))
+            quiet_body(alloc, next, goals, all.next)
         }
-        NodeKind::Choice => Ok(Woken::Body(same_body(alloc, second, next)?)),
-        NodeKind::Condition => Ok(Woken::Body(same_body(alloc, second, next)?)),
-        NodeKind::Catch { .. } => Ok(Woken::Body(same_body(alloc, second, next)?)),
-        NodeKind::Query => Ok(Woken::Body(same_body(alloc, second, next)?)),
+        NodeKind::Choice => same_body(alloc, second, next),
+        NodeKind::Condition => same_body(alloc, second, next),
+        NodeKind::Catch { .. } => same_body(alloc, second, next),
+        NodeKind::Query => same_body(alloc, second, next),
     }
 }
 
@@ -105,11 +97,4 @@ fn quiet_body(
         bindings: Bindings::new(alloc),
     };
     body_of_one(alloc, base, Branch { goals, segment })
-}
-
-/// Whether no term has a variable.
-fn are_variable_free(terms: &[FlatTerm]) -> bool
-    ensures { result ≡ are_variable_free terms.now }
-{
-    terms.iter().all(|term| term.bound() == 0)
 }

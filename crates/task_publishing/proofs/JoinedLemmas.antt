@@ -84,7 +84,7 @@ module _ (levels : List Level) (number : ℕ) (named : List NamedTerm) (items : 
       → joined_entry whole (meant_entry kind heights (carried named over) a) ≡ published_entry (placement_of levels number named gs) items kind a
   entry_joined Choice a h = ap PlainEntry (continuation_joined a h)
   entry_joined (Catch catcher recovery) a h = ap (CatchEntry (resolve a.bound catcher) (resolve a.bound recovery)) (continuation_joined a h)
-  entry_joined (Findall list results) a h = ap (FindallEntry results.items (resolve a.bound list)) (continuation_joined a h)
+  entry_joined (Findall list results) a h = ap (FindallEntry (map (resolve a.bound) results.items) (resolve a.bound list)) (continuation_joined a h)
 
   entries_joined : (kind : CapturedKind) (ms : List MeantAlternative) → Each (NumbersUpTo many) ms
       → map (joined_entry whole) (map (meant_entry kind heights (carried named over)) ms)
