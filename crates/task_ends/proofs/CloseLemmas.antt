@@ -23,9 +23,9 @@ use Rattle.branch_reading.specs.Readings.{reading}
 use Rattle.public_tree.specs.PublicClosing.{end_credit, record_credit, RunEndsAs}
 use Rattle.public_tree.specs.declared.closing.TaskEnd.{TaskEnd}
 use Rattle.task_closing.specs.WakingPlaces.{WakingClosingsAreNoCatch}
-use Rattle.task_closing.specs.WokenBodies.{HasOpenResults, IsGivenFor}
+use Rattle.task_closing.specs.WokenBodies.{IsGivenFor}
 use Rattle.branch_shapes.proofs.OutLemmas.{IsOutAt, out_at, spot_out}
-use Rattle.task_ends.specs.TaskEnds.{EndsOut, WakesOpenResults}
+use Rattle.task_ends.specs.TaskEnds.{EndsOut}
 
 sleeps_there : (beside : Beside) (rows : Rows) (b : Place) → HasSleeper beside rows b → is_waking beside ≡ true → IsBesideSleeper rows b
 sleeps_there Same rows b h e = absurd (cc e)
@@ -62,14 +62,4 @@ module _ (job : Job) (nodes : NodesView) (t : TreeState) (w : ℕ) (a : Place) (
           law nodes (reading job) s.level s.above (Pending s.hold s.entry) a (place_view closing.end) (record_credit k collected) (credit_view closing.credit)
           closing.beside there.at there.table (subst (IsSound []) (sym there.in_tree) legal.sound.sound) rests waking
           (sleeps_there closing.beside nodes.rows (place_view closing.end) sleeper waking));
-    }
-
-    pub wakes_open : is_waking closing.beside ≡ true → HasOpenResults nodes.rows (place_view closing.end) → WakesOpenResults nodes e w a k t
-    wakes_open wakes open_there = record {
-      end = place_view closing.end;
-      total = credit_view closing.credit;
-      beside = closing.beside;
-      rests = rests_out;
-      wakes = wakes;
-      results = open_there;
     }

@@ -1,13 +1,15 @@
 -- The result that an alternative gives, by what its task's store has bound.
-use Rattle.std.proofs.Common.{◌≡◌, ℕ, true, List, [], ◌∷◌, ◌++◌, length, map, drop, Some, sym, ap, ◌∙◌, subst}
+use Rattle.std.proofs.Common.{◌≡◌, ◌⊎◌, inl, inr, ℕ, ◌-◌, ◌≤◌, Bool, true, false, cond, List, [], ◌∷◌, ◌++◌, length, map, drop, Some, refl, sym, ap, ◌∙◌, subst, arith}
+use Rattle.std.proofs.lemmas.List.{length-map}
 use Rattle.std.specs.List.{slice_get}
+use Rattle.std.specs.Prelude.{nat_lt}
 use Rattle.au_term.specs.Term.{Term}
 use Rattle.au_model.specs.Terms.Named.{NamedTerm}
 use Rattle.au_model.specs.Terms.Substitutions.{Substitution, resolve}
-use Rattle.run_model.specs.Machine.Entries.{PlainEntry}
-use Rattle.run_model.specs.Machine.Items.{Item, CollectMark, RemovalItem, Continuation, before, resolve_item, resolve_named}
+use Rattle.run_model.specs.Machine.Entries.{Entry, PlainEntry, CatchEntry, FindallEntry, EndEntry, collected}
+use Rattle.run_model.specs.Machine.Items.{Item, GoalItem, CatchMark, CollectMark, RemovalItem, Continuation, before, resolve_item, resolve_named, with_items, without_marks}
 use Rattle.region_split.specs.Regions.{entries_of}
-use Rattle.region_floor.specs.BareFloors.{AreOwn}
+use Rattle.region_floor.specs.BareFloors.{AreOwn, bare_stack}
 use Rattle.region_floor.specs.Deferred.{carried_term, deferred_now, joined_continuation, joined_entry}
 use Rattle.region_floor.specs.RegionRuns.{RegionRun, ComesToResult, by_heights, run_after}
 use Rattle.region_floor.proofs.JoinedLemmas.{bound_now}
@@ -15,7 +17,9 @@ use Rattle.region_floor.proofs.RunLemmas.{tops_are_own}
 use Rattle.tree_model.specs.Credits.{Credit}
 use Rattle.tree_model.specs.Effects.{results_of, result_of}
 use Rattle.tree_model.specs.Legality.{run_gives_result}
+use Rattle.tree_model.specs.Floors.{floor_of}
 use Rattle.tree_model.specs.Levels.{Level}
+use Rattle.tree_model.specs.PrivateRuns.{own_at_rest, own_free_step, own_free_steps, private_run}
 use Rattle.tree_nodes.specs.Bodies.{Branching}
 use Rattle.public_tree.specs.declared.closing.TaskEnd.TheVariants.{Result}
 use Rattle.branch_loading.specs.TaskLoads.{run_on_branch}
@@ -23,18 +27,18 @@ use Rattle.branch_reading.specs.Readings.{continuation_on, named_of, query_on}
 use Rattle.run_model.specs.Programs.Clauses.{Clause}
 use Rattle.run_model.specs.Programs.Jobs.{Job}
 use Rattle.task_region.specs.GoalLoads.{nothing_here}
-use Rattle.task_region.specs.TaskResults.{HasNoChoice, IsResultNow}
+use Rattle.task_region.specs.TaskResults.{IsResultNow}
 use Rattle.task_region.specs.TaskStops.{IsNextFor, StopsTask}
 use Rattle.task_region.specs.TaskViews.{TaskView, carried, task_stack}
 use Rattle.task_region.specs.declared.running.TaskStop.TheVariants.{Collect}
 use Rattle.task_region.proofs.FoundLemmas.{items_from}
 use Rattle.task_region.proofs.ResultLemmas.{nothing_over_floor}
-use Rattle.task_ends.specs.EndLaws.{TaskResultsAreGiven}
+use Rattle.task_ends.specs.EndLaws.{IsAllLeft, TaskResultsAreGiven}
 use Rattle.task_ends.specs.TaskEnds.{EndsWith}
 use Rattle.task_ends.proofs.EndLemmas.{run_is, stopped, there}
 
 module _ (clauses : List Clause) (levels : List Level) (job : Job) (way : Branching) (k : ℕ) (task : TaskView) (number : ℕ) (next : IsNextFor (Collect number) task)
-    (alone : HasNoChoice task) (stops : StopsTask (run_on_branch clauses levels job way) k (named_of (query_on job way)) task (Collect number)) where
+    (alone : IsAllLeft k task) (stops : StopsTask (run_on_branch clauses levels job way) k (named_of (query_on job way)) task (Collect number)) where
   abbrev run : RegionRun
   run = run_on_branch clauses levels job way
 
@@ -57,13 +61,47 @@ module _ (clauses : List Clause) (levels : List Level) (job : Job) (way : Branch
   result_is_left : ComesToResult run k (task_stack named task)
   result_is_left = stops.2
 
+  -- a run has at most one entry at its start
+  at_start : (e : Entry) → length (own_at_rest (floor_of levels) (e ∷ [])) ≤ 1
+  at_start (CatchEntry c r f) = omega arith
+  at_start (FindallEntry results l f) = omega arith
+  at_start (EndEntry b) = omega arith
+  at_start (PlainEntry f) = by_items (without_marks f.items)
+    where
+      by_items : (items : List (Item ℕ)) → length (own_free_step items f [] (floor_of levels) (own_free_steps (floor_of levels) 0)) ≤ 1
+      by_items [] = omega arith
+      by_items (GoalItem t h ∷ items) = omega arith
+      by_items (CatchMark h ∷ items) = omega arith
+      by_items (RemovalItem n ∷ items) = omega arith
+      by_items (CollectMark t h ∷ items) = by_test (nat_lt h (length (floor_of levels)))
+        where
+          by_test : (b : Bool) → length (cond b (PlainEntry (with_items (CollectMark t h ∷ items) f) ∷ []) (collected (h - length (floor_of levels)) t [])) ≤ 1
+          by_test true = omega arith
+          by_test false = omega arith
+
+  one_at_start : (below : List Entry) → k ≡ 0 → run_after run k ≡ Some (map (joined_entry run.deferred) (PlainEntry top ∷ below)) → below ≡ []
+  unfolding private_run
+  one_at_start below none runs =
+      let here : Some (own_at_rest (floor_of levels) (run.entry ∷ [])) ≡ Some (map (joined_entry run.deferred) (PlainEntry top ∷ below))
+      = ap (run_after run) (sym none) ∙ runs in
+      let both : own_at_rest (floor_of levels) (run.entry ∷ []) ≡ map (joined_entry run.deferred) (PlainEntry top ∷ below) = cc in
+      none_more below (let short = at_start run.entry in let e = ap length both in let n = length-map below (joined_entry run.deferred) in omega (arith, short, e, n))
+    where
+      none_more : (es : List Entry) → length es ≡ 0 → es ≡ []
+      none_more [] e = refl
+      none_more (x ∷ es) e = absurd (omega (arith, e))
+
   own_is : result_is_left.own ≡ PlainEntry top ∷ []
   own_is =
       let r = result_is_left in
       let stack : task_stack named task ≡ PlainEntry top ∷ entries_of all task.region = ap (λ es. es ++ entries_of all task.region) (next.1 all) in
       let own = tops_are_own levels r.own top (entries_of all task.region) (sym r.entries ∙ stack) in
-      let under = nothing_over_floor all task.region levels own.below alone (subst (AreOwn (length levels)) own.own_is r.are_own).1 own.entries in
-      own.own_is ∙ ap (λ es. PlainEntry top ∷ es) under
+      own.own_is ∙ ap (λ es. PlainEntry top ∷ es) (nothing_under own.below own.own_is own.entries alone)
+    where
+      nothing_under : (below : List Entry) → result_is_left.own ≡ PlainEntry top ∷ below → entries_of all task.region ≡ bare_stack levels below → IsAllLeft k task → below ≡ []
+      nothing_under below is entries (inl none) = one_at_start below none (result_is_left.run ∙ ap (λ es. Some (map (joined_entry run.deferred) es)) is)
+      nothing_under below is entries (inr ends) =
+          nothing_over_floor all task.region levels below ends (subst (AreOwn (length levels)) is result_is_left.are_own).1 entries
 
   run_left : run_after run k ≡ Some (PlainEntry (joined_continuation run.deferred top) ∷ [])
   run_left = result_is_left.run ∙ ap (λ es. Some (map (joined_entry run.deferred) es)) own_is

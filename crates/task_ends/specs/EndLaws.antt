@@ -1,5 +1,5 @@
 -- What a task that has stopped tells of the end of its alternative.
-use Rattle.std.specs.Prelude.{ℕ, None, Some}
+use Rattle.std.specs.Prelude.{◌≡◌, ◌⊎◌, ℕ, None, Some}
 use Rattle.au_term.specs.Term.{Term}
 use Rattle.tree_model.specs.LegalTrees.{IsLegalTree}
 use Rattle.tree_model.specs.Levels.{Place}
@@ -18,9 +18,13 @@ EndedRunsAreEmpty =
     (v : TreeView) (w k : ℕ) (a : Place) → NodesStand v → IsLegalTree (state_of v.history)
     → HasRunOut v.nodes a v.history.job.clauses k → EndsOut Nothing None w a k (state_of v.history)
 
--- where a task with no other choice has come to a result, its alternative gives that, with what the task's store has bound
+-- a result is all that is left: no inference was taken, or no choice point is left
+abbrev pub IsAllLeft : ℕ → TaskView → Type 0
+IsAllLeft k task = (k ≡ 0) ⊎ HasNoChoice task
+
+-- where a task has come to such a result, its alternative gives that, with what the task's store has bound
 abbrev pub TaskResultsAreGiven : Type 0
 TaskResultsAreGiven =
     (v : TreeView) (w k : ℕ) (a : Place) (task : TaskView) (number : ℕ) (result : Term) → NodesStand v → IsLegalTree (state_of v.history)
-    → StopsThereFor v.nodes a v.history.job.clauses k task (Collect number) → IsNextFor (Collect number) task → HasNoChoice task
+    → StopsThereFor v.nodes a v.history.job.clauses k task (Collect number) → IsNextFor (Collect number) task → IsAllLeft k task
     → IsResultNow task number result → EndsOut Result (Some result) w a k (state_of v.history)

@@ -1,33 +1,25 @@
 //! Alternatives that close, once the run of their task has ended.
-ghost use Rattle.std.specs.Prelude.{◌≡◌, true, is_some, IfOk, OnErr};
+ghost use Rattle.std.specs.Prelude.{◌≡◌, true, is_some, OnErr, OnOk};
 ghost use Rattle.tree_model.specs.EventViews.{place_view};
 ghost use Rattle.tree_model.specs.Legality.{taken_at};
+ghost use Rattle.public_tree.specs.PublicClosing.{closing_event};
 ghost use Rattle.public_tree.specs.declared.closing.TaskEnd.TheVariants.{Nothing, Result as GivenResult};
-ghost use Rattle.tree_core.specs.Histories.{state_of};
-ghost use Rattle.task_region.specs.TaskResults.{HasNoChoice};
+ghost use Rattle.tree_core.specs.Histories.{state_of, while_going};
 ghost use Rattle.task_region.specs.TaskStops.{IsNextFor};
 ghost use Rattle.task_region.specs.declared.running.TaskStop.TheVariants.{Collect};
 ghost use Rattle.task_gates.specs.StopCauses.{StopsThereFor};
-ghost use Rattle.task_ends.specs.TaskEnds.{ClosesOut, EndsOut, HasRunOut};
+ghost use Rattle.task_ends.specs.EndLaws.{IsAllLeft};
+ghost use Rattle.task_ends.specs.TaskEnds.{EndsOut, HasRunOut};
 
 use crate::laws::{ended_runs_are_empty, results_are_given};
 use au_term::{FlatTerm, NoMemory};
 use public_tree::TaskEnd;
 use std::alloc::Global;
 use task_closing::laws::waking_closings_are_no_catch;
-use task_closing::{Woken, woken_body};
+use task_closing::woken_body;
 use task_region::TaskRegion;
 use tree_core::{JobBrand, Tree};
 use tree_model::AltRef;
-
-/// What has come of an alternative that was to close.
-#[derive(Clone, Copy, Debug, PartialEq, Eq)]
-pub enum Closed {
-    /// It has closed, or the tree has ended or was stopped.
-    Done,
-    /// Nothing has happened: a findall that goes on by that has a result with a variable.
-    OpenResults,
-}
 
 /// A worker closes an alternative that is out to it, of whose run its task has left nothing after so many inferences. Nothing happens
 /// where the tree has ended or was stopped.
@@ -37,10 +29,10 @@ pub fn close_task<J: JobBrand>(
     at: AltRef,
     inferences: u64,
     alloc: Global,
-) -> Result<Closed, NoMemory>
+) -> Result<(), NoMemory>
     requires out { is_some (taken_at worker (place_view at) (state_of tree.old.history)) ≡ true }
     requires over { HasRunOut tree.old.nodes (place_view at) tree.old.history.job.clauses inferences }
-    ensures closes { IfOk result (ClosesOut tree.old tree.new Nothing worker (place_view at) inferences) }
+    ensures closes { OnOk result (tree.new.history ≡ while_going (closing_event Nothing worker (place_view at) inferences) tree.old.history) }
     ensures err { OnErr result (tree.new.history ≡ tree.old.history) }
 {
     ended_runs_are_empty();
@@ -66,12 +58,12 @@ pub fn collect_task<J: JobBrand>(
     alloc: Global,
     task: TaskRegion,
     number: u64,
-) -> Result<Closed, NoMemory>
+) -> Result<(), NoMemory>
     requires out { is_some (taken_at worker (place_view at) (state_of tree.old.history)) ≡ true }
     requires stops { StopsThereFor tree.old.nodes (place_view at) tree.old.history.job.clauses inferences task (Collect number) }
     requires next { IsNextFor (Collect number) task }
-    requires alone { HasNoChoice task }
-    ensures closes { IfOk result (ClosesOut tree.old tree.new GivenResult worker (place_view at) inferences) }
+    requires alone { IsAllLeft inferences task }
+    ensures closes { OnOk result (tree.new.history ≡ while_going (closing_event GivenResult worker (place_view at) inferences) tree.old.history) }
     ensures err { OnErr result (tree.new.history ≡ tree.old.history) }
 {
     results_are_given();
@@ -96,10 +88,10 @@ fn close_out<J: JobBrand>(
     inferences: u64,
     ending: (TaskEnd, Option<FlatTerm>),
     alloc: Global,
-) -> Result<Closed, NoMemory>
+) -> Result<(), NoMemory>
     requires out { is_some (taken_at worker (place_view at) (state_of tree.old.history)) ≡ true }
     requires ends { EndsOut ending.0 ending.1 worker (place_view at) inferences (state_of tree.old.history) }
-    ensures closes { IfOk result (ClosesOut tree.old tree.new ending.0 worker (place_view at) inferences) }
+    ensures closes { OnOk result (tree.new.history ≡ while_going (closing_event ending.0 worker (place_view at) inferences) tree.old.history) }
     ensures err { OnErr result (tree.new.history ≡ tree.old.history) }
 {
     waking_closings_are_no_catch();
@@ -108,15 +100,5 @@ fn close_out<J: JobBrand>(
     let (end, collected) = ending;
     let closing = tree.rest_of(at, inferences, collected)?;
     let woken = woken_body(tree.nodes(), alloc, &closing)?;
-    match woken {
-        Woken::Nothing => {
-            tree.close(worker, at, inferences, end, closing, None)?;
-            Ok(Closed::Done)
-        }
-        Woken::Body(body) => {
-            tree.close(worker, at, inferences, end, closing, Some(body))?;
-            Ok(Closed::Done)
-        }
-        Woken::OpenResults => Ok(Closed::OpenResults),
-    }
+    tree.close(worker, at, inferences, end, closing, woken)
 }

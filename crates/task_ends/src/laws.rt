@@ -6,7 +6,8 @@ pub fn ended_runs_are_empty()
     ensures { EndedRunsAreEmpty }
 {}
 
-/// Where a task has come to a result for a findall above and has no other choice, its alternative gives this result.
+/// Where a task has come to a result for a findall above and nothing else is left of its run, as before the first inference and where it
+/// has no other choice, its alternative gives this result.
 pub fn results_are_given()
     ensures { TaskResultsAreGiven }
 {}

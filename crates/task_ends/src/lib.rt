@@ -5,4 +5,4 @@
 mod closing;
 pub mod laws;
 
-pub use closing::{Closed, close_task, collect_task};
+pub use closing::{close_task, collect_task};

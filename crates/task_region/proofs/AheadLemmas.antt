@@ -59,7 +59,7 @@ module _ (t : TaskView) (r1 : RegionView) (text : r1.text ≡ t.region.text) (st
           record { own = own_run_of r named t (record (changed_to t r1) { next = Some p }) (record { text = text; start = start; floor = refl; variables = refl; deferred = refl }) s.own; stands = h },
           nothing_stops r k (continuation_here all r1 p) (entries_of all r1) (ap (λ (f : Continuation ℕ). f.items) (nothing_is r1 p l.there.items all)) h,
         );
-    there = ((l.there.position, refl, ([], tt, λ named. ap (λ (f : Continuation ℕ). PlainEntry f ∷ []) (nothing_is r1 p l.there.items named))), (λ e. e));
+    there = ((l.there.position, refl, ([], tt, λ named. ap (λ (f : Continuation ℕ). PlainEntry f ∷ []) (nothing_is r1 p l.there.items named))), (λ e. e), (λ e. e));
     same = same;
   }
 
@@ -68,14 +68,14 @@ module _ (t : TaskView) (r1 : RegionView) (text : r1.text ≡ t.region.text) (st
     stands = λ r k named s.
         let all = carried named t.deferred in
         end_is_empty r k None (entries_of all r1) (looking_stands r k all t.region r1 t.next QueryDone s.stands l);
-    there = ((tt, refl, tt), (λ e. e));
+    there = ((tt, refl, tt), (λ e. e), (λ e. e));
     same = same;
   }
 
   pub none_ahead : LiesAhead t.region r1 t.next AllDone → LooksAhead t (changed_to t r1) (task.Stops stop.Empty None)
   none_ahead l = record {
     stands = λ r k named s. none_is_empty r k (looking_stands r k (carried named t.deferred) t.region r1 t.next AllDone s.stands l);
-    there = ((tt, refl, tt), (λ e. e));
+    there = ((tt, refl, tt), (λ e. e), (λ e. e));
     same = same;
   }
 
@@ -161,7 +161,7 @@ module _ (t : TaskView) (r1 : RegionView) (text : r1.text ≡ t.region.text) (st
       → LooksAhead t (changed_to t r3) (task.Stops stop.Answer (Some p))
   answer_next n r2 r3 p takes leaves = record {
     stands = λ r k named s. gate_next n r2 r3 p leaves takes.there.1 r k named s (takes.taken r k named follows s.own.items (comes r k named s));
-    there = ((leaves.position, refl, (RemovalItem n ∷ [], takes.there.0, rest_next n r2 r3 p leaves takes.there.1)), (λ e. e));
+    there = ((leaves.position, refl, (RemovalItem n ∷ [], takes.there.0, rest_next n r2 r3 p leaves takes.there.1)), (λ e. e), (λ e. e));
     same = record { text = (left_same n r2 r3 p leaves takes.there.1).text; start = (left_same n r2 r3 p leaves takes.there.1).start; floor = refl; variables = refl; deferred = refl };
   }
 
@@ -169,7 +169,7 @@ module _ (t : TaskView) (r1 : RegionView) (text : r1.text ≡ t.region.text) (st
       → LooksAhead t (changed_to t r3) (task.Stops (stop.Removal clause) (Some p))
   removal_next n clause r2 r3 p takes leaves = record {
     stands = λ r k named s. gate_next n r2 r3 p leaves takes.there.1 r k named s (takes.taken r k named follows s.own.items (comes r k named s));
-    there = ((leaves.position, refl, (n, takes.there.0, rest_next n r2 r3 p leaves takes.there.1)), (λ e. e));
+    there = ((leaves.position, refl, (n, takes.there.0, rest_next n r2 r3 p leaves takes.there.1)), (λ e. e), (λ e. e));
     same = record { text = (left_same n r2 r3 p leaves takes.there.1).text; start = (left_same n r2 r3 p leaves takes.there.1).start; floor = refl; variables = refl; deferred = refl };
   }
 
@@ -182,6 +182,6 @@ module _ (t : TaskView) (r1 : RegionView) (text : r1.text ≡ t.region.text) (st
           takes.there.0,
           subst (ComesToResult r k) (sym (stack_is n r2 r3 p leaves takes.there.1 r k named s h.0)) h.1,
         );
-    there = ((leaves.position, refl, (takes.there.0, rest_next n r2 r3 p leaves takes.there.1)), (λ e. e));
+    there = ((leaves.position, refl, (takes.there.0, rest_next n r2 r3 p leaves takes.there.1)), (λ e. e), (λ e. e));
     same = record { text = (left_same n r2 r3 p leaves takes.there.1).text; start = (left_same n r2 r3 p leaves takes.there.1).start; floor = refl; variables = refl; deferred = refl };
   }

@@ -155,7 +155,7 @@ module _ (t : TaskView) (i : FrameItem) (g : GoalPlace) (there : IsGoalThere t.r
     pub limit_stops : (more : Bool) → more ≡ false → TakesGoalNext t (changed_to t new) i g more (Stops stop.Limit (Some p))
     limit_stops more e = record {
       stands = λ r k named own h. (on_run r k named own h, (top_goal (carried named t.deferred) t.region a.goal g, stack_is named ∙ a.entries (carried named t.deferred)));
-      there = ((l.position, refl, tt), (λ u. e));
+      there = ((l.position, refl, tt), (λ u. e), (λ u. absurd u));
       same = left_same;
     }
 
@@ -169,7 +169,7 @@ module _ (t : TaskView) (i : FrameItem) (g : GoalPlace) (there : IsGoalThere t.r
             low,
             subst (λ st. StandsAtGate r k st (CutGate (node_of r.levels g.cut))) (sym (stack_is named ∙ a.entries (carried named t.deferred))) gate,
           );
-      there = ((l.position, refl, tt), (λ u. absurd u));
+      there = ((l.position, refl, tt), (λ u. absurd u), (λ u. absurd u));
       same = left_same;
     }
 
@@ -209,12 +209,12 @@ module _ (t : TaskView) (i : FrameItem) (g : GoalPlace) (there : IsGoalThere t.r
       same = taken_same;
     }
 
-    pub ball_falls : (more : Bool) (ball : Box FlatTerm Global) → after ≡ Uncaught ball → TakesGoalNext t (changed_to t new) i g more (Stops (stop.Ball ball.value) None)
-    ball_falls more ball e = record {
+    pub ball_falls : (ball : Box FlatTerm Global) → after ≡ Uncaught ball → TakesGoalNext t (changed_to t new) i g true (Stops (stop.Ball ball.value) None)
+    ball_falls ball e = record {
       stands = λ r k named own h.
           let b = subst (StandsBy r k (carried named t.deferred) new (top_goal (carried named t.deferred) t.region a.goal g)) e (taken r k named own h) in
           (top_goal (carried named t.deferred) t.region a.goal g, b.0, b.1);
-      there = ((tt, refl, tt), (λ u. absurd u));
+      there = ((tt, refl, tt), (λ u. absurd u), (λ u. refl));
       same = taken_same;
     }
 
@@ -240,6 +240,6 @@ module _ (t : TaskView) (i : FrameItem) (g : GoalPlace) (there : IsGoalThere t.r
           stands = λ r k named own h.
               let gate = subst (StandsBy r k (carried named t.deferred) new (top_goal (carried named t.deferred) t.region a.goal g)) e (taken r k named own h) in
               (on_run last p l r k named own h, subst (λ st. StandsAtGate r k st WorldGate) (sym (stack_is last p l named ∙ a.entries (carried named t.deferred))) gate);
-          there = ((l.position, refl, asks_left last p l asked), (λ u. absurd u));
+          there = ((l.position, refl, asks_left last p l asked), (λ u. absurd u), (λ u. absurd u));
           same = left_same last p l;
         }

@@ -1,5 +1,5 @@
 -- A task that runs on.
-use Rattle.std.proofs.Common.{◌≡◌, ℕ, ◌+◌, ◌≤◌, Bool, true, false, nat_lt, List, length, Option, Some, None, IsSome, IfSome, refl, sym, ◌∙◌, subst, arith}
+use Rattle.std.proofs.Common.{◌≡◌, ℕ, ◌+◌, ◌<◌, ◌≤◌, Bool, true, false, nat_lt, List, length, Option, Some, None, IsSome, IfSome, refl, sym, ◌∙◌, subst, arith}
 use Rattle.std.proofs.lemmas.Bool.Decides.{nat_tests}
 use Rattle.au_model.specs.Terms.Each.{Each}
 use Rattle.au_model.specs.Terms.Named.{NamedTerm}
@@ -43,7 +43,7 @@ goal_round old r1 r2 item g more round l t = record {
 
 pub stop_round : (old : TaskView) (r1 : RegionView) (stop : TaskStop) (next : Option Position) (more : Bool) → LooksAhead old (changed_to old r1) (ahead.Stops stop next)
     → PassesRound old (changed_to old r1) more (Stops stop next)
-stop_round old r1 stop next more l = record { stands = l.stands; there = (l.there.0, (λ u. absurd (l.there.1 u))); same = l.same }
+stop_round old r1 stop next more l = record { stands = l.stands; there = (l.there.0, (λ u. absurd (l.there.1 u)), (λ u. absurd (l.there.2 u))); same = l.same }
 
 deferred_same : (x y : TaskView) → SameTask x y → Each (IsDeferredOver x.variables x.floor) x.deferred → Each (IsDeferredOver y.variables y.floor) y.deferred
 deferred_same x y s d =
@@ -81,12 +81,16 @@ module _ (old here : TaskView) (taken : ℕ) (w : IsRunning old here taken) (way
     run = λ r k named s. p.stands r (k + taken) named (w.stands r k named s);
     within = le;
     all = λ u. full (p.there.1 u);
+    under = λ u. below (p.there.2 u);
     there = p.there.0;
     same = same_twice old here (record new { next = next }) w.same (record { text = p.same.text; start = p.same.start; floor = p.same.floor; variables = p.same.variables; deferred = p.same.deferred });
   }
     where
       full : more ≡ false → taken ≡ limit
       full none = let below : nat_lt taken limit ≡ false = sym e ∙ none in grind (arith, nat_tests, below, le)
+
+      below : more ≡ true → taken < limit
+      below one = let h = below_limit taken limit (sym e ∙ one) in omega (arith, h)
 
 -- a task that goes on at a position is under way
 pub under_way : (t : TaskView) (start : Position) → t.next ≡ Some start → IsTask t → IsUnderWay (record t { next = Some start })
@@ -127,6 +131,7 @@ module _ (old new : TaskView) (limit : ℕ) (ran : TaskRan) (o : RunsOn old new 
     run = λ r k named going s. o.run r k named (subst (StandsOnRun r k named) e s);
     within = o.within;
     all = o.all;
+    under = o.under;
     next = o.there.1;
     next_for = o.there.2;
     same = subst (λ (t : TaskView). SameTask t new) (sym e) o.same;
@@ -139,6 +144,7 @@ ended_task t limit e = record {
   run = λ r k named going s. absurd (none_is_none t.next e going);
   within = omega arith;
   all = λ u. absurd u;
+  under = λ u. absurd u;
   next = e;
   next_for = tt;
   same = record { text = refl; start = refl; floor = refl; variables = refl; deferred = refl };

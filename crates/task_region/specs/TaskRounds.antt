@@ -1,5 +1,5 @@
 -- One round of a task: what lies ahead of it, and one goal that is taken.
-use Rattle.std.specs.Prelude.{◌≡◌, ◌+◌, ℕ, Bool, true, false, ◌≤◌, List, length, Option}
+use Rattle.std.specs.Prelude.{◌≡◌, ◌+◌, ℕ, Bool, true, false, ◌<◌, ◌≤◌, List, length, Option}
 use Rattle.au_model.specs.Terms.Named.{NamedTerm}
 use Rattle.region_split.specs.ClauseTrials.{IsOptionalPosition}
 use Rattle.region_split.specs.declared.frame.FrameItem.{FrameItem}
@@ -9,7 +9,7 @@ use Rattle.region_control.specs.declared.control.GoalPlace.{GoalPlace}
 use Rattle.region_floor.specs.RegionRuns.{RegionRun, StandsAfter}
 use Rattle.task_region.specs.TaskViews.{TaskView, goal_stack}
 use Rattle.task_region.specs.TaskStandings.{IsOwnRun, StandsOnRun}
-use Rattle.task_region.specs.TaskStops.{IsLimit, IsNextFor, LeavesNext, SameTask, StopsTask}
+use Rattle.task_region.specs.TaskStops.{IsBall, IsLimit, IsNextFor, LeavesNext, SameTask, StopsTask}
 use Rattle.task_region.specs.declared.running.TaskRan.{TaskRan}
 use Rattle.task_region.specs.declared.ahead.TaskAhead.{TaskAhead}
 use Rattle.task_region.specs.declared.ahead.TaskAhead.TheVariants as ahead
@@ -28,7 +28,7 @@ AheadStands r k named t (ahead.Stops stop next) = StopsTask r k named (record t 
 
 abbrev pub IsAheadThere : TaskView → TaskAhead → Type 0
 IsAheadThere t (ahead.Goal item g) = IsGoalThere t.region item g
-IsAheadThere t (ahead.Stops stop next) = IsStopThere t stop next × (IsLimit stop → ⊥)
+IsAheadThere t (ahead.Stops stop next) = IsStopThere t stop next × (IsLimit stop → ⊥) × (IsBall stop → ⊥)
 
 pub record LooksAhead (old new : TaskView) (a : TaskAhead) : Type 0 where
   pub stands : (r : RegionRun) (k : ℕ) (named : List NamedTerm) → StandsOnRun r k named old → AheadStands r k named new a
@@ -40,10 +40,10 @@ abbrev pub RoundStands : RegionRun → ℕ → List NamedTerm → TaskView → T
 RoundStands r k named t (GoesOn next) = StandsOnRun r (k + 1) named (record t { next = next })
 RoundStands r k named t (Stops stop next) = StopsTask r k named (record t { next = next }) stop
 
--- an inference only where one more may be taken, and a limit only where none may
+-- an inference, as one that throws a ball, only where one more may be taken, and a limit only where none may
 abbrev pub IsRoundThere : TaskView → Bool → TaskRound → Type 0
 IsRoundThere t more (GoesOn next) = IsOptionalPosition t.region (length t.region.choices) next × (more ≡ true)
-IsRoundThere t more (Stops stop next) = IsStopThere t stop next × (IsLimit stop → more ≡ false)
+IsRoundThere t more (Stops stop next) = IsStopThere t stop next × (IsLimit stop → more ≡ false) × (IsBall stop → more ≡ true)
 
 -- from a goal
 pub record TakesGoalNext (old new : TaskView) (item : FrameItem) (g : GoalPlace) (more : Bool) (round : TaskRound) : Type 0 where
@@ -62,5 +62,6 @@ pub record RunsOn (old new : TaskView) (limit : ℕ) (ran : TaskRan) : Type 0 wh
   pub run : (r : RegionRun) (k : ℕ) (named : List NamedTerm) → StandsOnRun r k named old → StopsTask r (k + ran.taken) named new ran.stop
   pub within : ran.taken ≤ limit
   pub all : IsLimit ran.stop → ran.taken ≡ limit
+  pub under : IsBall ran.stop → ran.taken < limit
   pub there : IsStopThere new ran.stop new.next
   pub same : SameTask old new

@@ -79,6 +79,16 @@ IsLimit (Collect number) = ⊥
 IsLimit (Ball ball) = ⊥
 IsLimit Empty = ⊥
 
+abbrev pub IsBall : TaskStop → Type 0
+IsBall Limit = ⊥
+IsBall (Cut node) = ⊥
+IsBall (World item g) = ⊥
+IsBall (Removal clause) = ⊥
+IsBall Answer = ⊥
+IsBall (Collect number) = ⊥
+IsBall (Ball ball) = Unit {0}
+IsBall Empty = ⊥
+
 -- a ball or the end uses a region up; else it can go on
 abbrev pub LeavesNext : TaskStop → Option Position → Type 0
 LeavesNext Limit next = IsSome next
@@ -98,12 +108,13 @@ pub record SameTask (old new : TaskView) : Type 0 where
   pub variables : new.variables ≡ old.variables
   pub deferred : new.deferred ≡ old.deferred
 
--- a task that goes on takes at most so many inferences of its run, and all of them where it stops for no other cause; one that is at
--- its end stays there
+-- a task that goes on takes at most so many inferences of its run, and all of them where it stops for no other cause, but not all of them
+-- where one more throws a ball; one that is at its end stays there
 pub record RunsTask (old new : TaskView) (limit : ℕ) (ran : TaskRan) : Type 0 where
   pub run : (r : RegionRun) (k : ℕ) (named : List NamedTerm) → IsSome old.next → StandsOnRun r k named old → StopsTask r (k + ran.taken) named new ran.stop
   pub within : ran.taken ≤ limit
   pub all : IsLimit ran.stop → ran.taken ≡ limit
+  pub under : IsBall ran.stop → ran.taken < limit
   pub next : LeavesNext ran.stop new.next
   pub next_for : IsNextFor ran.stop new
   pub same : SameTask old new

@@ -45,7 +45,8 @@ returns-in-Uncaught c =
     let not_cut : c.args.goal.1.cut < c.args.task.now.floor → IsCutItem c.args.region.now.store c.args.goal.0 → ⊥ =
     λ low cut. told_apart c.cuts_to_floor.result (c.cuts_to_floor.ensures.1 (low, subst (λ (st : StoreView). IsCutItem st c.args.goal.0) (sym c.store.ensures.store) cut)) c.if-cuts_to_floor.false in
     subst (λ ball. TakesGoalNext t (changed_to t c.infer.new.region) c.args.goal.0 c.args.goal.1 c.args.more (Stops (Ball ball) None)) (sym c.into_inner.ensures)
-    (ball_falls t c.args.goal.0 c.args.goal.1 c.requires.there c.requires.deferred c.ends_are_oldest.ensures.ends c.ends_are_oldest.ensures.marks c.infer.new.region c.in_ok-after.after c.in_ok-after.ensures.infers not_cut c.in_ok-after.ensures.text c.in_ok-after.ensures.floor c.args.more c.in-Uncaught.ball c.in-Uncaught.is)
+    (subst (λ more. TakesGoalNext t (changed_to t c.infer.new.region) c.args.goal.0 c.args.goal.1 more (Stops (Ball c.in-Uncaught.ball.value) None)) (sym c.if-not-more.false)
+    (ball_falls t c.args.goal.0 c.args.goal.1 c.requires.there c.requires.deferred c.ends_are_oldest.ensures.ends c.ends_are_oldest.ensures.marks c.infer.new.region c.in_ok-after.after c.in_ok-after.ensures.infers not_cut c.in_ok-after.ensures.text c.in_ok-after.ensures.floor c.in-Uncaught.ball c.in-Uncaught.is))
 
 pub leave_goal-requires-in-AsksWorld : goal.leave_goal-requires-in-AsksWorld
 leave_goal-requires-in-AsksWorld c =
