@@ -4,3 +4,4 @@ mod GivenBackLemmas
 mod OutEventLemmas
 mod OutHistoryLemmas
 mod OutAndBackLemmas
+mod StopLemmas

@@ -1,5 +1,6 @@
 -- What holds of a job's tree where all that was handed out has come back.
 use Rattle.std.specs.Prelude.{◌≡◌, ◌≢◌, ◌⊎◌, ℕ, Bool, true, false, List, [], ◌∷◌, ◌++◌, None}
+use Rattle.std.specs.List.{list_any}
 use Rattle.run_model.specs.Programs.Jobs.{Job}
 use Rattle.tree_model.specs.Events.{Event, Claim, Nodes, Empty, Collected, Lost, Suspend, Resume, Prune, Answer, Stop}
 use Rattle.tree_model.specs.Histories.{tree_after, IsLegalHistory}
@@ -61,6 +62,22 @@ OneGoesOut = (es : List Event) (a : Place) (out : Event) → out_after es [] ≡
 abbrev pub OneComesBack : Type 0
 OneComesBack = (es : List Event) (a : Place) (back : Event) → out_after es [] ≡ a ∷ [] → gives_back a back ≡ true
     → out_after (es ++ back ∷ []) [] ≡ []
+
+abbrev pub is_stop : Event → Bool
+is_stop (Stop w) = true
+is_stop (Claim w a) = false
+is_stop (Resume w a) = false
+is_stop (Suspend w a frozen) = false
+is_stop (Nodes w a k sizes) = false
+is_stop (Empty w a k) = false
+is_stop (Collected w a k) = false
+is_stop (Lost w a) = false
+is_stop (Prune w a) = false
+is_stop (Answer w a frozen) = false
+
+-- a tree was stopped by nothing else
+abbrev pub OnlyStopsStop : Type 0
+OnlyStopsStop = (job : Job) (budget window : ℕ) (es : List Event) → list_any is_stop es ≡ false → (tree_after job budget window es).stopped ≡ false
 
 -- an alternative goes out, and comes back by the next event
 pub record IsOutAndBack (out back : Event) : Type 0 where

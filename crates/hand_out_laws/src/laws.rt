@@ -1,5 +1,5 @@
 //! Laws of what is handed out of a tree and comes back: each function does nothing, and its contract is the law.
-ghost use Rattle.hand_out_laws.specs.HandedBack.{AllBack, AllBackWhileGoing, GoesOnOrEnds, OneGoesOut, OneComesBack, TurnsBack, AllTurnBack};
+ghost use Rattle.hand_out_laws.specs.HandedBack.{AllBack, AllBackWhileGoing, GoesOnOrEnds, OneGoesOut, OneComesBack, OnlyStopsStop, TurnsBack, AllTurnBack};
 
 use interleaving::laws::trees::never_stuck;
 
@@ -24,4 +24,9 @@ pub fn out_and_back()
     ensures back { OneComesBack }
     ensures once { TurnsBack }
     ensures again { AllTurnBack }
+{}
+
+/// Only an event that stops it stops a tree.
+pub fn only_stops_stop()
+    ensures { OnlyStopsStop }
 {}
