@@ -3,5 +3,6 @@ pub mod AskedEffectLemmas
 pub mod FoundEffectLemmas
 pub mod FoundLemmas
 pub mod ReplyLemmas
+pub mod AnswerLemmas
 pub mod RowLemmas
 pub mod RemovalLemmas

@@ -1,14 +1,12 @@
 -- What goes on after a goal of the world.
-use Rattle.std.proofs.Common.{◌≡◌, ℕ, ◌+◌, Bool, true, false, cond, List, [], ◌∷◌, ◌++◌, length, map, filter, Option, Some, None, refl, sym, ap, ◌∙◌, subst, arith}
+use Rattle.std.proofs.Common.{◌≡◌, ℕ, ◌+◌, List, [], ◌∷◌, ◌++◌, length, map, Option, Some, None, refl, sym, ap, ◌∙◌, subst, arith}
 use Rattle.au_model.specs.Terms.Named.{NamedTerm}
 use Rattle.au_model.specs.Terms.Unifier.{unifier}
 use Rattle.run_model.specs.Goals.Outcomes.{Reply, Replies, Solutions, Solution}
 use Rattle.run_model.specs.Goals.WorldConstructs.{holds_once}
-use Rattle.run_model.specs.Machine.Entries.{Entry, PlainEntry, unified, solution_entry, solution_entries}
+use Rattle.run_model.specs.Machine.Entries.{Entry, PlainEntry}
 use Rattle.run_model.specs.Machine.Heights.{after_reply}
-use Rattle.run_model.specs.Machine.Items.{Continuation, before, removing, with_next, goals_at}
-use Rattle.run_model.specs.Programs.Databases.{NumberedClause}
-use Rattle.effect_gate.specs.Effects.{AreFound}
+use Rattle.run_model.specs.Machine.Items.{Continuation}
 use Rattle.region_split.specs.ClauseTrials.{entries_at, IsOptionalPosition}
 use Rattle.region_split.specs.Regions.{RegionView, entries_of, continuation_here}
 use Rattle.region_split.specs.Solutions.{SolutionView}
@@ -22,6 +20,7 @@ use Rattle.region_control.specs.declared.control.GoalPlace.{GoalPlace}
 use Rattle.region_control.specs.declared.replies.AfterGoal.{AfterGoal}
 use Rattle.region_control.specs.declared.replies.AfterGoal.TheVariants.{At, Failed, Uncaught, AsksWorld}
 use Rattle.region_control.proofs.ControlLemmas.{place_in}
+use Rattle.region_world.specs.WorldAnswers.{AreOfReply}
 
 -- to hold once is to go on
 once_goes_on : (f : Continuation ℕ) (es : List Entry) → after_reply holds_once f es ≡ PlainEntry f ∷ es
@@ -54,24 +53,10 @@ module _ (r : RegionView) (place : GoalPlace) where
     leaves_equal p q (Uncaught ball) e l = λ named. e named ∙ l named
     leaves_equal p q AsksWorld e l = absurd l
 
-    -- clauses that were left out leave nothing
-    left_out : (k : ℕ) (f : Continuation ℕ) (solution : NumberedClause → Solution) (p : NumberedClause → Bool) → ((c : NumberedClause) → p c ≡ false → unifier (solution c).equations ≡ None)
-        → (all : List NumberedClause) → solution_entries k f (map solution (filter p all)) ≡ solution_entries k f (map solution all)
-    left_out k f solution p others [] = refl
-    left_out k f solution p others (c ∷ cs) = by (p c) refl (left_out k f solution p others cs)
-      where
-        by : (b : Bool) → p c ≡ b → solution_entries k f (map solution (filter p cs)) ≡ solution_entries k f (map solution cs) → solution_entries k f (map solution (cond b (c ∷ filter p cs) (filter p cs))) ≡ solution_entries k f (map solution (c ∷ cs))
-        by true e h = ap (λ es. solution_entry k f (solution c) ++ es) h
-        by false e h =
-            h
-            ∙ ap (λ o. unified o (with_next (f.next + (solution c).variables) (before (goals_at k (solution c).goals) (removing (solution c).removes f))) ++ solution_entries k f (map solution cs)) (sym (others c e))
-
-    pub found_leaves : (solution : NumberedClause → Solution) (reply : Reply) (found : List NumberedClause) (after : AfterGoal) → AreFound solution reply found → LeavesOutcome r new (Replies (Solutions (map solution found))) place after → LeavesOutcome r new (Replies reply) place after
-    found_leaves solution reply found after h l =
-        replied_as new reply (Solutions (map solution h.all)) after h.replies
-        (leaves_equal (λ named. after_reply (Solutions (map solution h.all)) (continuation_here named r place.after) (entries_of named r)) (λ named. after_reply (Solutions (map solution found)) (continuation_here named r place.after) (entries_of named r)) after
-        (λ named.
-        let f = continuation_here named r place.after in
-        let es = entries_of named r in
-        ap (λ xs. xs ++ es) (sym (ap (λ cs. solution_entries (length es) f (map solution cs)) h.kept ∙ left_out (length es) f solution h.may_unify h.others h.all)))
+    -- those that leave what a reply leaves
+    pub reply_leaves : (solutions : List Solution) (reply : Reply) (after : AfterGoal) → AreOfReply solutions reply → LeavesOutcome r new (Replies (Solutions solutions)) place after → LeavesOutcome r new (Replies reply) place after
+    reply_leaves solutions reply after h l =
+        replied_as new reply (Solutions h.all) after h.replies
+        (leaves_equal (λ named. after_reply (Solutions h.all) (continuation_here named r place.after) (entries_of named r)) (λ named. after_reply (Solutions solutions) (continuation_here named r place.after) (entries_of named r)) after
+        (λ named. let es = entries_of named r in ap (λ xs. xs ++ es) (h.leave (length es) (continuation_here named r place.after)))
         l)

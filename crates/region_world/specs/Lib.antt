@@ -1,4 +1,5 @@
 pub mod AskedEffects
 pub mod FoundSolutions
 pub mod RowSolutions
+pub mod WorldAnswers
 pub mod WorldGoals

@@ -1,12 +1,9 @@
 -- What goals of the world leave (ISO/IEC 13211-1, 7.7.7).
 use Rattle.std.specs.Prelude.{◌≡◌, ℕ, Bool, true, false, List, Some, None}
 use Rattle.au_term.specs.Term.{Term}
-use Rattle.clause_compile.specs.declared.event.Effect.{Effect}
-use Rattle.effect_gate.specs.Effects.{AreFound, IsReplied}
-use Rattle.effect_gate.specs.declared.world.Applied.{Applied}
 use Rattle.run_model.specs.Goals.Outcomes.{Reply, Replies, HaltNumber, Solution, Solutions}
 use Rattle.run_model.specs.Goals.Worlds.{World, world_step}
-use Rattle.run_model.specs.Programs.Databases.{Database, NumberedClause, without_clause}
+use Rattle.run_model.specs.Programs.Databases.{Database, without_clause}
 use Rattle.region_split.specs.Regions.{RegionView}
 use Rattle.region_control.specs.Replies.{LeavesOutcome}
 use Rattle.region_control.specs.declared.control.GoalPlace.{GoalPlace}
@@ -18,10 +15,6 @@ use Rattle.region_world.specs.declared.goal.WorldReply.TheVariants.{Goes, Halted
 abbrev pub LeavesSolutions : RegionView → RegionView → List Solution → GoalPlace → AfterGoal → Type 0
 LeavesSolutions old new solutions g after = LeavesOutcome old new (Replies (Solutions solutions)) g after
 
--- whatever the reply is for which these clauses were found, it takes the place of its goal
-abbrev pub LeavesFound : RegionView → RegionView → (NumberedClause → Solution) → List NumberedClause → GoalPlace → AfterGoal → Type 0
-LeavesFound old new solution found g after = (reply : Reply) → AreFound solution reply found → LeavesOutcome old new (Replies reply) g after
-
 -- a reply takes the place of its goal, or it ends the run
 abbrev pub LeavesReply : RegionView → RegionView → Reply → GoalPlace → WorldReply → Type 0
 LeavesReply old new reply g (Goes after) = LeavesOutcome old new (Replies reply) g after
@@ -31,11 +24,6 @@ LeavesReply old new reply g (Halted status) = reply ≡ HaltNumber status
 pub record TakesWorldGoal (old new : RegionView) (goal : Term) (g : GoalPlace) (before after : World) (left : WorldReply) : Type 0 where
   pub world : after ≡ (world_step old.text.clauses goal old.store.now.next before).0
   pub reply : LeavesReply old new (world_step old.text.clauses goal old.store.now.next before).1 g left
-
--- an effect has some reply, which the answer tells
-pub record HasReply (e : Effect) (next : ℕ) (applied : Applied) : Type 0 where
-  pub reply : Reply
-  pub told : IsReplied e next reply applied
 
 -- the clause of a number is gone from the world where it was there
 abbrev pub RemovesClause : ℕ → World → World → Bool → Type 0

@@ -1,36 +1,23 @@
 //! Goals of the world.
 ghost use Rattle.std.specs.Prelude.{◌≡◌, map, IfOk, OnOk};
-ghost use Rattle.au_model.specs.Terms.ErrorTerms.{error_term};
-ghost use Rattle.au_model.specs.Terms.Faults.{error_term_of};
-ghost use Rattle.run_model.specs.Goals.Outcomes.{Reply, Replies, Ball};
+ghost use Rattle.run_model.specs.Goals.Outcomes.{Reply};
 ghost use Rattle.run_model.specs.Goals.Worlds.{static_among};
-ghost use Rattle.clause_compile.specs.CompiledClauses.{shown};
-ghost use Rattle.op_table.specs.OperatorView.{row_meant};
 ghost use Rattle.cell_store.specs.StoreView.{IsValueIn, meaning};
-ghost use Rattle.effect_gate.specs.Effects.{IsReplied, effect_arity, effect_name, statics_of, world_meant};
+ghost use Rattle.effect_gate.specs.Effects.{statics_of, world_meant};
 ghost use Rattle.region_split.specs.StackOperations.{solution_here};
 ghost use Rattle.region_split.specs.SolutionTrials.{AreSolutionsHere};
 ghost use Rattle.region_control.specs.Controls.{IsGoalPlace};
-ghost use Rattle.region_control.specs.GoalForms.{IsFormOf};
-ghost use Rattle.region_control.specs.Replies.{LeavesOutcome};
-ghost use Rattle.region_world.specs.AskedEffects.{AsksWorld, AsksWorldIn};
-ghost use Rattle.region_world.specs.FoundSolutions.{IsMatchingIn, clause_unified};
-ghost use Rattle.region_world.specs.RowSolutions.{AreAskedIn, operator_unified};
-ghost use Rattle.region_world.specs.WorldGoals.{HasReply, LeavesFound, LeavesReply, LeavesSolutions, TakesWorldGoal};
+ghost use Rattle.region_world.specs.AskedEffects.{AsksWorldIn};
+ghost use Rattle.region_world.specs.WorldAnswers.{TellsReply, TellsSome};
+ghost use Rattle.region_world.specs.WorldGoals.{LeavesReply, LeavesSolutions, TakesWorldGoal};
 
-use crate::effect::effect_of;
-use crate::found::{Matching, found_solutions, matching_of};
-use crate::rows::{Asked, asked_of, row_solutions};
-use au_model::Fault;
+use crate::asking::{WorldAnswer, ask_world};
 use au_term::NoMemory;
 use binding_array::BindingCell;
-use clause_compile::{Clause, ClauseId, Effect};
-use effect_gate::{Applied, World, ball};
-use op_table::OpRow;
-use region_control::{AfterGoal, GoalForm, GoalPlace, form_of, raise};
+use effect_gate::World;
+use region_control::{AfterGoal, GoalPlace, raise};
 use region_split::{Region, Solutions};
 use std::alloc::Global;
-use std::sync::Arc;
 
 /// What a goal of the world leaves.
 #[derive(Drop)]
@@ -58,106 +45,36 @@ pub fn world_goal(
     ensures text { OnOk result (region.new.text ≡ region.old.text) }
     ensures floor { OnOk result (region.new.store.floor ≡ region.old.store.floor) }
 {
-    let Some(form) = form_of(region.store(), goal) else {
-        unreachable!();
-    };
-    let effect = effect_of(region.store(), goal, form)?;
-    let applied = world.apply(alloc, &effect)?;
-    applied_taken(region, alloc, goal, form, &effect, applied, place)
+    let answer = ask_world(region, alloc, goal, world)?;
+    answer_taken(region, alloc, answer, place)
 }
 
-/// Takes a goal whose effect was applied to the world.
-fn applied_taken(
+/// Takes a goal by what it comes to.
+fn answer_taken(
     region: &mut Region,
     alloc: Global,
-    goal: BindingCell,
-    form: GoalForm,
-    effect: &Effect,
-    applied: Applied,
+    answer: WorldAnswer,
     place: GoalPlace,
 ) -> Result<WorldReply, NoMemory>
-    requires goal { IsValueIn region.old.store goal }
-    requires form { IsFormOf region.old.store goal form }
-    requires asks { AsksWorld (meaning region.old.store goal) effect.now }
-    requires replied { HasReply effect.now region.old.store.now.next applied }
+    requires tells { TellsSome region.old answer }
     requires place { IsGoalPlace region.old place }
-    ensures leaves { IfOk result (λ left. (reply : Reply) → IsReplied effect.now region.old.store.now.next reply applied → LeavesReply region.old region.new reply place left) }
+    ensures leaves { IfOk result (λ left. (reply : Reply) → TellsReply region.old reply answer → LeavesReply region.old region.new reply place left) }
     ensures text { OnOk result (region.new.text ≡ region.old.text) }
     ensures floor { OnOk result (region.new.store.floor ≡ region.old.store.floor) }
 {
-    match applied {
-        Applied::Went => Ok(WorldReply::Goes(AfterGoal::At(place.after))),
-        Applied::Raise(fault) => {
-            let after = error_raised(region, alloc, effect, &fault, place)?;
+    match answer {
+        WorldAnswer::Went => Ok(WorldReply::Goes(AfterGoal::At(place.after))),
+        WorldAnswer::Fails => Ok(WorldReply::Goes(AfterGoal::Failed)),
+        WorldAnswer::Raised(ball) => {
+            let after = raise(region, alloc, &ball, place)?;
             Ok(WorldReply::Goes(after))
         }
-        Applied::Clauses(found) => {
-            let matching = matching_of(alloc, region.store(), effect, goal, form)?;
-            let after = clauses_tried(region, alloc, &matching, &found, place)?;
+        WorldAnswer::Halted(status) => Ok(WorldReply::Halted(status)),
+        WorldAnswer::Solutions(solutions) => {
+            let after = solutions_tried(region, solutions, place)?;
             Ok(WorldReply::Goes(after))
         }
-        Applied::Fails => Ok(WorldReply::Goes(AfterGoal::Failed)),
-        Applied::Rows(rows) => {
-            let asked = asked_of(region.store(), form.arguments);
-            let after = rows_tried(region, alloc, asked, &rows, place)?;
-            Ok(WorldReply::Goes(after))
-        }
-        Applied::Halt(status) => Ok(WorldReply::Halted(status)),
     }
-}
-
-/// Raises the error of a goal.
-fn error_raised(
-    region: &mut Region,
-    alloc: Global,
-    effect: &Effect,
-    fault: &Fault,
-    place: GoalPlace,
-) -> Result<AfterGoal, NoMemory>
-    requires { IsGoalPlace region.old place }
-    ensures comes { IfOk result (LeavesOutcome region.old region.new (Replies (Ball (error_term (error_term_of fault.now) (effect_name effect.now) (effect_arity effect.now)))) place) }
-    ensures text { OnOk result (region.new.text ≡ region.old.text) }
-    ensures floor { OnOk result (region.new.store.floor ≡ region.old.store.floor) }
-{
-    let raised = ball(alloc, effect, fault)?;
-    raise(region, alloc, &raised, place)
-}
-
-/// Tries clauses that were found.
-fn clauses_tried(
-    region: &mut Region,
-    alloc: Global,
-    matching: &Matching,
-    found: &[(ClauseId, Arc<Clause>)],
-    place: GoalPlace,
-) -> Result<AfterGoal, NoMemory>
-    requires matching { IsMatchingIn region.old.store matching.now }
-    requires place { IsGoalPlace region.old place }
-    ensures comes { IfOk result (LeavesFound region.old region.new (clause_unified region.old.store matching.now) (map shown found.now) place) }
-    ensures text { OnOk result (region.new.text ≡ region.old.text) }
-    ensures floor { OnOk result (region.new.store.floor ≡ region.old.store.floor) }
-{
-    let base = region.store().next();
-    let solutions = found_solutions(alloc, found, matching, base)?;
-    solutions_tried(region, solutions, place)
-}
-
-/// Tries operators that were found.
-fn rows_tried(
-    region: &mut Region,
-    alloc: Global,
-    asked: Asked,
-    rows: &[OpRow],
-    place: GoalPlace,
-) -> Result<AfterGoal, NoMemory>
-    requires asked { AreAskedIn region.old.store asked }
-    requires place { IsGoalPlace region.old place }
-    ensures comes { IfOk result (LeavesSolutions region.old region.new (map (operator_unified region.old.store asked) (map row_meant rows.now)) place) }
-    ensures text { OnOk result (region.new.text ≡ region.old.text) }
-    ensures floor { OnOk result (region.new.store.floor ≡ region.old.store.floor) }
-{
-    let solutions = row_solutions(alloc, asked, rows)?;
-    solutions_tried(region, solutions, place)
 }
 
 /// Tries solutions in the place of a goal.

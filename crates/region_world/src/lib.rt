@@ -3,11 +3,13 @@
 //! the world; what is unified with clauses and operators stays where it is.
 #![tactic(auto)]
 
+mod asking;
 mod effect;
 mod found;
 mod goal;
 mod removal;
 mod rows;
 
+pub use asking::{WorldAnswer, ask_world};
 pub use goal::{WorldReply, world_goal};
 pub use removal::removes_clause;

@@ -1,9 +1,9 @@
 pub mod SpotLemmas
 pub mod EventLemmas
-mod BranchLemmas
+pub mod BranchLemmas
 pub mod FrontLemmas
 mod RemovalLemmas
 mod AnswerLemmas
-mod TopLemmas
-mod ToldLemmas
+pub mod TopLemmas
+pub mod ToldLemmas
 mod LoadedLemmas

@@ -67,13 +67,13 @@ module _ (job : Job) (nodes : NodesView) (t : TreeState) (w : ℕ) (a : Place) (
   -- with this continuation on top
   module _ (stands : StandsOnRun run 0 named task) (gate : StandsAtGate run 0 (task_stack named task) WorldGate) (f : Continuation ℕ)
       (next : entries_at (carried named task.deferred) task.region task.next ≡ PlainEntry f ∷ []) where
-    told : ComesFrom (joined_continuation run.deferred f) (with_heights levels (reading job here))
+    pub told : ComesFrom (joined_continuation run.deferred f) (with_heights levels (reading job here))
     told =
         front_told clauses levels (reading job here) run.deferred (task_stack named task) WorldGate gate f (entries_of (carried named task.deferred) task.region)
         (ap (λ es. es ++ entries_of (carried named task.deferred) task.region) next)
         (subst IsAwake (reads job nodes t w a tree.placed s taken) (awake job nodes t w a tree.placed s taken tree.legal))
 
-    stack : spot_stack s ≡ PlainEntry told.front ∷ floor_of levels
+    pub stack : spot_stack s ≡ PlainEntry told.front ∷ floor_of levels
     stack =
         ap (λ e. with_heights levels e ∷ floor_of levels) (reads job nodes t w a tree.placed s taken)
         ∙ ap (λ e. e ∷ floor_of levels) told.plain

@@ -19,7 +19,7 @@ use tree_core::{JobBrand, Tree};
 use tree_model::AltRef;
 
 /// Why an alternative may not be taken at the front, if it may not: it is not the leftmost entry, or the tree has ended or was stopped.
-pub(crate) fn why_barred<J: JobBrand>(tree: &Tree<J>, at: AltRef) -> Option<Answering>
+pub fn why_barred<J: JobBrand>(tree: &Tree<J>, at: AltRef) -> Option<Answering>
     ensures { IsBarredBy tree.now.history (place_view at) result }
 {
     if !tree.is_going() {
@@ -32,7 +32,7 @@ pub(crate) fn why_barred<J: JobBrand>(tree: &Tree<J>, at: AltRef) -> Option<Answ
 }
 
 /// An alternative goes on at the front with what it has left behind its first item.
-pub(crate) fn go_on<J: JobBrand>(
+pub fn go_on<J: JobBrand>(
     tree: &mut Tree<J>,
     worker: u32,
     at: AltRef,
@@ -54,11 +54,7 @@ pub(crate) fn go_on<J: JobBrand>(
 }
 
 /// How an alternative closes of which the front leaves nothing.
-pub(crate) fn close<J: JobBrand>(
-    tree: &Tree<J>,
-    worker: u32,
-    at: AltRef,
-) -> Result<FrontStep, NoMemory>
+pub fn close<J: JobBrand>(tree: &Tree<J>, worker: u32, at: AltRef) -> Result<FrontStep, NoMemory>
     requires may { IsBarredBy tree.now.history (place_view at) None }
     requires out { is_some (taken_at worker (place_view at) (state_of tree.now.history)) ≡ true }
     requires nothing { AtFront worker (place_view at) (λ s front. front ≡ Continues []) (state_of tree.now.history) }

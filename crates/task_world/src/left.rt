@@ -14,11 +14,7 @@ use tree_model::AltRef;
 use tree_nodes::{NodeBody, Nodes};
 
 /// The body of a node with what an alternative has left behind its first item.
-pub(crate) fn body_behind(
-    nodes: &Nodes,
-    at: AltRef,
-    alloc: Global,
-) -> Result<Arc<NodeBody>, NoMemory>
+pub fn body_behind(nodes: &Nodes, at: AltRef, alloc: Global) -> Result<Arc<NodeBody>, NoMemory>
     requires { IsSome (cell_at nodes.now.rows (place_view at)) }
     ensures left { IfOk result (λ body. LeavesBehind nodes.now.rows (place_view at) (body_view (arc_value body))) }
     ensures whole { IfOk result (λ body. IsWhole (body_view (arc_value body))) }

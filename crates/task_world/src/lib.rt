@@ -10,5 +10,7 @@ mod removal;
 mod step;
 
 pub use answer::take_answer;
+pub use front::{close, go_on, why_barred};
+pub use left::body_behind;
 pub use removal::take_removal;
 pub use step::FrontStep;

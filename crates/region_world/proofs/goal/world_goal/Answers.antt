@@ -1,41 +1,21 @@
-use Rattle.std.proofs.Common.{◌≡◌, ◌∙◌, false, sym, ap, subst}
 use Rattle.std.proofs.lemmas.Result.{IfOk-weaker}
-use Rattle.au_model.specs.Terms.Forms.{is_callable}
-use Rattle.run_model.specs.Goals.Outcomes.{Reply}
-use Rattle.run_model.specs.Goals.WorldConstructs.{World as WorldTerms}
-use Rattle.cell_store.specs.StoreView.{StoreView, meaning}
-use Rattle.effect_gate.specs.Effects.{effect_answer, statics_of, world_meant}
-use Rattle.region_world.specs.AskedEffects.{AsksWorld}
-use Rattle.region_world.specs.WorldGoals.{LeavesReply}
-use Rattle.region_world.proofs.AskedEffectLemmas.{stepped-as}
-use Rattle.region_world.proofs.AskedGoalLemmas.{asked_callable}
+use Rattle.run_model.specs.Goals.Worlds.{world_step}
+use Rattle.cell_store.specs.StoreView.{meaning}
+use Rattle.effect_gate.specs.Effects.{world_meant}
 use Rattle.region_world.proofs.goal.world_goal.Goals as goal
 
-pub unreachable-requires : goal.unreachable-requires
-unreachable-requires c =
+pub answer_taken-requires-clause-tells : goal.answer_taken-requires-clause-tells
+answer_taken-requires-clause-tells c =
     let r = c.args.region.now in
-    let no : is_callable (meaning r.store c.args.goal) ≡ false = subst (λ (st : StoreView). is_callable (meaning st c.args.goal) ≡ false) c.store.ensures.store c.in_default.ensures in
-    let yes = asked_callable r.text.clauses (meaning r.store c.args.goal) r.store.now.next c.requires.asks.asked c.requires.asks.asks in
-    cc
-
-pub applied_taken-requires-clause-replied : goal.applied_taken-requires-clause-replied
-applied_taken-requires-clause-replied c =
-    let w = c.args.world.now in
-    let next = c.args.region.now.store.now.next in
-    record { reply = (effect_answer (statics_of w) c.in_ok-effect.effect next (world_meant w)).1; told = (c.in_ok-applied.ensures.applied next).1 }
+    record { reply = (world_step r.text.clauses (meaning r.store c.args.goal) r.store.now.next (world_meant c.args.world.now)).1; tells = c.in_ok-answer.ensures.answers.reply }
 
 pub returns-clause-takes : goal.returns-clause-takes
 returns-clause-takes c =
     let r = c.args.region.now in
-    let new = c.applied_taken.new.region in
-    let w = c.args.world.now in
-    let next = r.store.now.next in
-    let asks = subst (λ (st : StoreView). AsksWorld (meaning st c.args.goal) c.in_ok-effect.effect) c.store-2.ensures.store c.in_ok-effect.ensures in
-    let step = stepped-as (statics_of w) r.text.clauses (world_meant w) (meaning r.store c.args.goal) c.in_ok-effect.effect next c.requires.statics asks in
-    let applied = c.in_ok-applied.ensures.applied next in
-    IfOk-weaker c.applied_taken.result _ _
+    let a = c.in_ok-answer.ensures.answers in
+    IfOk-weaker c.answer_taken.result _ _
     (λ left k. record {
-      world = applied.0 ∙ ap (λ (p : WorldTerms × Reply). p.0) (sym step);
-      reply = subst (λ (p : WorldTerms × Reply). LeavesReply r new p.1 c.args.place left) (sym step) (k (effect_answer (statics_of w) c.in_ok-effect.effect next (world_meant w)).1 applied.1);
+      world = a.world;
+      reply = k (world_step r.text.clauses (meaning r.store c.args.goal) r.store.now.next (world_meant c.args.world.now)).1 a.reply;
     })
-    c.applied_taken.ensures.leaves
+    c.answer_taken.ensures.leaves

@@ -1,0 +1,10 @@
+pub mod TrialLemmas
+pub mod BranchLemmas
+pub mod AskedItemLemmas
+pub mod ToldGoalLemmas
+pub mod NextLemmas
+pub mod ReplyLemmas
+pub mod RaisedLemmas
+pub mod SolutionReadingLemmas
+pub mod SolutionLemmas
+pub mod AskLemmas

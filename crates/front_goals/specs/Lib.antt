@@ -1,0 +1,4 @@
+pub mod SolvedSolutions
+pub mod SolutionBranches
+pub mod RepliesNext
+pub mod RaisedBalls
