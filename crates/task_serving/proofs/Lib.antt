@@ -1,0 +1,9 @@
+mod EventLemmas
+mod RunLemmas
+mod BackLemmas
+mod TaskLemmas
+mod FrontLemmas
+mod EndLemmas
+mod NameLemmas
+mod CloseLemmas
+mod FirstLemmas

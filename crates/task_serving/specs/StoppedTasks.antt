@@ -1,0 +1,48 @@
+-- Where the task of an alternative that is out has stopped.
+use Rattle.std.specs.Prelude.{◌≡◌, ◌≤◌, ◌<◌, ℕ}
+use Rattle.branch_loading.specs.TaskLoads.{StartsOnBranch}
+use Rattle.task_gates.specs.StopCauses.{StopsThereFor}
+use Rattle.task_region.specs.TaskStops.{IsBall, IsLimit, IsNextFor, LeavesNext}
+use Rattle.task_region.specs.declared.running.TaskStop.{TaskStop}
+use Rattle.task_region.specs.declared.running.TaskStop.TheVariants.{Limit, Cut, World, Removal, Answer, Collect, Ball, Empty}
+use Rattle.task_serving.specs.declared.running.OutStop.{OutStop}
+use Rattle.task_serving.specs.declared.running.OutStop.TheVariants.{Ends, Stops}
+use Rattle.task_serving.specs.declared.running.StoppedTask.{StoppedTask}
+use Rattle.task_world.specs.FrontsTold.{StopsAtFront}
+use Rattle.tree_core.specs.Histories.{TreeView, state_of}
+use Rattle.tree_model.specs.Levels.{Place}
+use Rattle.worker_tasks.specs.OutTasks.{EndsQueryAt}
+
+-- it has stopped on the private run of its alternative, and before any inference at the front of it
+pub record HasStopped (v : TreeView) (a : Place) (s : StoppedTask) : Type 0 where
+  pub stops : StopsThereFor v.nodes a v.history.job.clauses s.taken s.task s.stop
+  pub front : s.taken ≡ 0 → StopsAtFront v.nodes a v.history.job.clauses s.task s.stop
+  pub start : StartsOnBranch v.nodes a s.task
+  pub text : s.task.region.text.clauses ≡ v.history.job.clauses
+  pub going : LeavesNext s.stop s.task.next
+  pub next : IsNextFor s.stop s.task
+
+-- what is out ends a query, or its task has stopped after at most so many inferences
+abbrev pub RunsOut : TreeView → ℕ → Place → ℕ → OutStop → Type 0
+RunsOut v w a limit (Ends ball) = EndsQueryAt w a ball (state_of v.history)
+RunsOut v w a limit (Stops s) = HasStopped v a s × (IsLimit s.stop → s.taken ≡ limit) × (IsBall s.stop → s.taken < limit)
+
+-- after how many inferences a ball is met
+abbrev pub before_ball : TaskStop → ℕ → ℕ
+before_ball Limit k = 0
+before_ball (Cut height) k = 0
+before_ball (World item g) k = 0
+before_ball (Removal clause) k = 0
+before_ball Answer k = 0
+before_ball (Collect number) k = 0
+before_ball (Ball ball) k = k
+before_ball Empty k = 0
+
+abbrev pub run_before_ball : OutStop → ℕ
+run_before_ball (Ends ball) = 0
+run_before_ball (Stops s) = before_ball s.stop s.taken
+
+-- a ball is met before any inference, and so many were taken only where they are some
+abbrev pub CanBeServed : TreeView → ℕ → Place → OutStop → Type 0
+CanBeServed v w a (Ends ball) = EndsQueryAt w a ball (state_of v.history)
+CanBeServed v w a (Stops s) = HasStopped v a s × (IsLimit s.stop → 1 ≤ s.taken) × (IsBall s.stop → s.taken ≡ 0)
