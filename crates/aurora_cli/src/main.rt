@@ -14,8 +14,6 @@ mod programs;
 #[cfg(test)]
 mod round_trip;
 #[cfg(test)]
-mod rows;
-#[cfg(test)]
 mod tests;
 pub mod top;
 mod words;

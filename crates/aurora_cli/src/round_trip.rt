@@ -7,6 +7,8 @@ use au_model::copies::copy_term;
 use au_model::{DoubleQuotes, Style};
 use au_term::{Atom, Cell, FlatTerm, NoMemory, TermBuilder};
 use op_table::{OpKind, OpRow, Operator, Ops};
+use sample_runs::numbers::Numbers;
+use sample_runs::terms::TERMS;
 use std::alloc::Global;
 use std::process::Abort;
 use std::test::Fail;
@@ -48,50 +50,6 @@ static TURNED: [Entry; 12] = [
     ("post", 1000, OpKind::Xf),
     ("f", 1100, OpKind::Xfy),
     ("f", 1100, OpKind::Fy),
-];
-
-/// Texts of terms under the operators that a text begins with, or under the further ones.
-static TEXTS: [&str; 40] = [
-    "a+b.",
-    "- 1.",
-    "-1.",
-    "-(1).",
-    "- (1).",
-    "-a.",
-    "- - a.",
-    "\\+a.",
-    "\\+ (a,b).",
-    "a- -1.",
-    "a - 1.",
-    "a -1.",
-    "1 - -1.",
-    "2**(3^4).",
-    "a:-b,c;d->e.",
-    "f(:-).",
-    "f(:-,a).",
-    "[-].",
-    "[a|b].",
-    "[a,b|T].",
-    "{a,b}.",
-    "{}.",
-    "{}(x).",
-    "[](x).",
-    "[ ](b).",
-    "- = x.",
-    "\\ -1.",
-    "X = (a ',' b).",
-    "\"ab\".",
-    "'\\''.",
-    ".(a,[]).",
-    "f(A,_,B,A,_).",
-    "a ===> b.",
-    "- a post.",
-    "(- a) post.",
-    "x post post.",
-    "~ ~ x ~ .",
-    "dynamic c/1, [d].",
-    "x both y 'A b' 'it\\'s' z.",
-    "'a b'('|', ';', !, [], {}, '').",
 ];
 
 /// Names of made terms.
@@ -157,31 +115,12 @@ fn there_and_back(
 fn texts(rt: HostRuntime) -> Result<(), Fail> {
     let alloc = rt.alloc();
     let ops = table(&rt, alloc, &FURTHER)?;
-    for text in TEXTS {
-        let term = read(&rt, alloc, text, &ops, DoubleQuotes::Codes)?;
+    for term in TERMS {
+        let text = format!(in alloc; "{term}.")?;
+        let term = read(&rt, alloc, text.as_str(), &ops, DoubleQuotes::Codes)?;
         there_and_back(&rt, alloc, &term, &ops, DoubleQuotes::Atom)?;
     }
     Ok(())
-}
-
-/// Numbers by a linear congruence, the same in each run.
-#[derive(Drop)]
-struct Numbers {
-    state: u64,
-}
-
-impl Numbers {
-    /// The next number, below a bound that is not 0.
-    fn below(&mut self, bound: usize) -> usize
-        requires { 0 < bound }
-        ensures { result < bound }
-    {
-        self.state = self
-            .state
-            .wrapping_mul(6_364_136_223_846_793_005)
-            .wrapping_add(1_442_695_040_888_963_407);
-        (self.state >> 33) as usize % bound
-    }
 }
 
 /// Puts a cell: a leaf where the term has cells enough.
@@ -236,7 +175,7 @@ fn made_terms(rt: HostRuntime) -> Result<(), Fail> {
         table(&rt, alloc, &FURTHER)?,
         table(&rt, alloc, &TURNED)?,
     ];
-    let mut numbers = Numbers { state: 1 };
+    let mut numbers = Numbers::from(1);
     for ops in &tables {
         for count in 0..1500 {
             let term = made(&rt, alloc, &mut numbers, count % 12)?;

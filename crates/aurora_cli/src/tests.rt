@@ -1,11 +1,13 @@
 //! Texts run from words to bytes, by rows.
 use crate::faulty_texts::{Bad, FAULTS};
 use crate::note::note_line;
-use crate::rows::{CONTROL, ERRORS, FINISHED, PREDICATES};
 use crate::top::aurora;
 use au_io::{MemoryShelf, MemorySink, NoGate};
 use au_model::FaultKind;
 use run_model::{Ending, UsageKind};
+use sample_runs::control::CONTROL;
+use sample_runs::predicates::{ERRORS, PREDICATES};
+use sample_runs::rows::FINISHED;
 use std::alloc::Global;
 use std::sync::Wait;
 use std::test::Fail;
