@@ -13,7 +13,7 @@ use std::marker::Brand;
 use std::process::Abort;
 use std::sync::Arc;
 use std::test::Fail;
-use task_ends::{Closed, close_task, collect_task};
+use task_ends::{close_task, collect_task};
 use task_gates::laws::tasks_stop_for_causes;
 use task_region::TaskStop;
 use tree_core::{JobBrand, Tree};
@@ -25,29 +25,44 @@ fn failing(alloc: Global) -> Result<Arc<Text>, Fail> {
     Ok(Arc::new(alloc, Text::new(alloc, clauses)?)?)
 }
 
-/// `findall(x, b, L)`
-fn findall(alloc: Global) -> Result<FlatTerm, Fail> {
+/// `findall(T, b, L)` of a template `T`.
+fn findall(alloc: Global, template: &FlatTerm) -> Result<FlatTerm, Fail> {
     let mut list = TermBuilder::new(alloc);
     list.push(Cell::Var(0))?;
     let list = list.finish();
-    let (x, b) = (atom(alloc, "x")?, atom(alloc, "b")?);
-    Ok(compound(alloc, Atom::ascii(alloc, "findall")?, &[&x, &b, &list])?)
+    let b = atom(alloc, "b")?;
+    Ok(compound(
+        alloc,
+        Atom::ascii(alloc, "findall")?,
+        &[template, &b, &list],
+    )?)
 }
 
 /// `a :- findall(x, b, L).` and `b.`
 fn collecting(alloc: Global) -> Result<Arc<Text>, Fail> {
     let mut clauses = Vec::new(alloc);
-    clauses.push(clause(alloc, &atom(alloc, "a")?, &findall(alloc)?)?)?;
+    let goal = findall(alloc, &atom(alloc, "x")?)?;
+    clauses.push(clause(alloc, &atom(alloc, "a")?, &goal)?)?;
     clauses.push(clause(alloc, &atom(alloc, "b")?, &atom(alloc, "true")?)?)?;
     Ok(Arc::new(alloc, Text::new(alloc, clauses)?)?)
 }
 
-/// Runs what is handed out next, and closes it, of which nothing is left.
-fn close_next<J: JobBrand>(
-    alloc: Global,
-    tree: &mut Tree<J>,
-    text: Arc<Text>,
-) -> Result<(u64, Closed), Fail>
+/// `a :- findall(Y, b, L).`, `b.`, `b :- c.` and `c.`
+fn collecting_variables(alloc: Global) -> Result<Arc<Text>, Fail> {
+    let mut template = TermBuilder::new(alloc);
+    template.push(Cell::Var(1))?;
+    let goal = findall(alloc, &template.finish())?;
+    let (b, c, holds) = (atom(alloc, "b")?, atom(alloc, "c")?, atom(alloc, "true")?);
+    let mut clauses = Vec::new(alloc);
+    clauses.push(clause(alloc, &atom(alloc, "a")?, &goal)?)?;
+    clauses.push(clause(alloc, &b, &holds)?)?;
+    clauses.push(clause(alloc, &b, &c)?)?;
+    clauses.push(clause(alloc, &c, &holds)?)?;
+    Ok(Arc::new(alloc, Text::new(alloc, clauses)?)?)
+}
+
+/// Runs what is handed out next, and closes it, of which nothing is left. Gives after how many inferences that is.
+fn close_next<J: JobBrand>(alloc: Global, tree: &mut Tree<J>, text: Arc<Text>) -> Result<u64, Fail>
     requires { tree.old.history.job.clauses ≡ (arc_value text).clauses }
 {
     let code = text.code()?;
@@ -59,20 +74,20 @@ fn close_next<J: JobBrand>(
     tasks_stop_for_causes();
     match ran.stop {
         TaskStop::Empty => {
-            let closed = close_task(tree, 1, at, ran.taken, alloc)?;
-            Ok((ran.taken, closed))
+            close_task(tree, 1, at, ran.taken, alloc)?;
+            Ok(ran.taken)
         }
         _ => Err("nothing left")?,
     }
 }
 
-/// Runs what is handed out next up to its one result, and closes it with that.
+/// Runs what is handed out next up to its one result, and closes it with that. Gives after how many inferences that is.
 fn collect_next<J: JobBrand>(
     rt: &impl Abort,
     alloc: Global,
     tree: &mut Tree<J>,
     text: Arc<Text>,
-) -> Result<(u64, Closed), Fail>
+) -> Result<u64, Fail>
     requires { tree.old.history.job.clauses ≡ (arc_value text).clauses }
 {
     let code = text.code()?;
@@ -85,15 +100,15 @@ fn collect_next<J: JobBrand>(
     match ran.stop {
         TaskStop::Collect(number) => {
             assert!(rt; task.has_no_choice());
-            let closed = collect_task(tree, 1, at, ran.taken, alloc, task, number)?;
-            Ok((ran.taken, closed))
+            collect_task(tree, 1, at, ran.taken, alloc, task, number)?;
+            Ok(ran.taken)
         }
         _ => Err("a result")?,
     }
 }
 
 /// Runs what is handed out next up to its first answer, and gives after how many inferences that is.
-pub(crate) fn answer_next<J: JobBrand>(
+fn answer_next<J: JobBrand>(
     alloc: Global,
     tree: &mut Tree<J>,
     text: Arc<Text>,
@@ -113,7 +128,7 @@ fn close_first<J: JobBrand>(rt: &impl Abort, alloc: Global, text: Arc<Text>) -> 
     requires { J.job ≡ asked_job (arc_value text).clauses }
 {
     let mut tree = opened::<J>(alloc, &text)?;
-    expect(rt, close_next(alloc, &mut tree, text)?, (2, Closed::Done));
+    expect(rt, close_next(alloc, &mut tree, text)?, 2);
     expect(rt, tree.counts(), (0, 2));
     expect(rt, tree.claim(1)?, Some(place(1, 0)));
     expect(rt, tree.claim(1)?, None);
@@ -127,14 +142,20 @@ fn query_fails(rt: HostRuntime) -> Result<(), Fail> {
     close_first::<Brand>(&rt, rt.alloc(), text)
 }
 
-fn collect_first<J: JobBrand>(rt: &impl Abort, alloc: Global, text: Arc<Text>) -> Result<(), Fail>
+/// Publishes after so many inferences, and collects the one result that is left after so many.
+fn collect_first<J: JobBrand>(
+    rt: &impl Abort,
+    alloc: Global,
+    text: Arc<Text>,
+    published: u64,
+    collected: u64,
+) -> Result<(), Fail>
     requires { J.job ≡ asked_job (arc_value text).clauses }
 {
     let mut tree = opened::<J>(alloc, &text)?;
-    publish_next(rt, alloc, &mut tree, text.clone()?, 2)?;
-    // The goal is called: two inferences.
-    let collected = collect_next(rt, alloc, &mut tree, text.clone()?)?;
-    expect(rt, collected, (2, Closed::Done));
+    publish_next(rt, alloc, &mut tree, text.clone()?, published)?;
+    let taken = collect_next(rt, alloc, &mut tree, text.clone()?)?;
+    expect(rt, taken, collected);
     expect(rt, answer_next(alloc, &mut tree, text)?, 1);
     Ok(())
 }
@@ -143,5 +164,13 @@ fn collect_first<J: JobBrand>(rt: &impl Abort, alloc: Global, text: Arc<Text>) -
 #[test]
 fn findall_goes_on(rt: HostRuntime) -> Result<(), Fail> {
     let text = collecting(rt.alloc())?;
-    collect_first::<Brand>(&rt, rt.alloc(), text)
+    // The goal is called: two inferences.
+    collect_first::<Brand>(&rt, rt.alloc(), text, 2, 2)
+}
+
+/// So does one that had a result with a variable when it was published.
+#[test]
+fn findall_of_variables_goes_on(rt: HostRuntime) -> Result<(), Fail> {
+    let text = collecting_variables(rt.alloc())?;
+    collect_first::<Brand>(&rt, rt.alloc(), text, 4, 1)
 }

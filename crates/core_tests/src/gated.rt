@@ -37,7 +37,7 @@ fn text(alloc: Global) -> Result<Arc<Text>, Fail> {
 }
 
 /// What is handed out next.
-pub(crate) fn handed_out<J: JobBrand>(tree: &mut Tree<J>) -> Result<AltRef, Fail>
+fn handed_out<J: JobBrand>(tree: &mut Tree<J>) -> Result<AltRef, Fail>
     ensures job { OnOk result (tree.new.history.job ≡ tree.old.history.job) }
 {
     match tree.claim(1)? {
@@ -47,7 +47,7 @@ pub(crate) fn handed_out<J: JobBrand>(tree: &mut Tree<J>) -> Result<AltRef, Fail
 }
 
 /// The task of what is out, at its start.
-pub(crate) fn task_out<J: JobBrand>(
+fn task_out<J: JobBrand>(
     alloc: Global,
     tree: &Tree<J>,
     at: AltRef,

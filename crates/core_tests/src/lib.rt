@@ -7,8 +7,6 @@ mod ended;
 #[cfg(test)]
 mod failing;
 #[cfg(test)]
-mod fallen;
-#[cfg(test)]
 mod gated;
 #[cfg(test)]
 mod hand_runs;

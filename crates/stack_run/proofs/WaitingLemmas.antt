@@ -10,7 +10,7 @@ on_err (Ok x) f h = tt
 on_err (Err e) f h = f h
 
 -- two lists of bytes were put out
-took_both : (a b c : Option (List ℕ)) (x y : List ℕ) → Appended a b x → Appended b c y → Appended a c (x ++ y)
+pub took_both : (a b c : Option (List ℕ)) (x y : List ℕ) → Appended a b x → Appended b c y → Appended a c (x ++ y)
 took_both None b c x y h k = tt
 took_both (Some old) None c x y h k = cc
 took_both (Some old) (Some new) c x y h k = k ∙ ap Some (ap (λ z. z ++ y) (inside h) ∙ append_assoc old x y)

@@ -1,0 +1,4 @@
+mod PieceLemmas
+mod TurnLemmas
+mod EndingLemmas
+mod OpeningLemmas

@@ -1,0 +1,17 @@
+use Rattle.scheduler.proofs.TurnLemmas.{back_again, over, run_goes_out}
+use Rattle.std.proofs.Common.{OnOk, Result, Ok, Err}
+use Rattle.scheduler.proofs.turns.turn.Goals as goal
+
+pub returns-then-not-is_going-clause-run : goal.returns-then-not-is_going-clause-run
+returns-then-not-is_going-clause-run g c = run_goes_out c.events_leave_runs.ensures _ _ _ _ c.in_ok-at.ensures.goes c.requires.run
+
+pub serve-requires-clause-run : goal.serve-requires-clause-run
+serve-requires-clause-run g c = run_goes_out c.events_leave_runs.ensures _ _ _ _ c.in_ok-at.ensures.goes c.requires.run
+
+on_ok : {T E : Type 0} (r : Result T E) {P Q : Type 0} → (P → Q) → OnOk r P → OnOk r Q
+on_ok (Ok x) f h = f h
+on_ok (Err e) f h = tt
+
+pub returns-clause-driven : goal.returns-clause-driven
+returns-clause-driven g c =
+    on_ok c.serve.result (λ b. back_again c.out_and_back.ensures.out c.out_and_back.ensures.back _ _ _ _ c.requires.driven c.requires.going c.in_ok-at.ensures.goes b) c.serve.ensures.back

@@ -1,0 +1,115 @@
+//! A job that is driven on its tree.
+ghost use Rattle.std.specs.Prelude.{◌≡◌, ◌≢◌, ◌≤◌};
+ghost use Rattle.au_io.specs.FaultCounts.{Increased};
+ghost use Rattle.stack_run.specs.RunEnds.{IsRun};
+ghost use Rattle.task_serving.specs.JobRuns.{IsJobRun};
+ghost use Rattle.scheduler.specs.Driving.{IsDriven};
+ghost use Rattle.scheduler.specs.Endings.{ClosesFrom};
+
+use crate::ending::{cut_short, end_of};
+use crate::opening::open;
+use crate::pieces::{PIECE, put_on};
+use crate::turns::turn;
+use au_io::Sink;
+use hand_out_laws::laws::only_stops_stop;
+use run_model::{RunEnd, RunEnding};
+use std::alloc::Global;
+use std::marker::Brand;
+use std::sync::Wait;
+use task_serving::JobRun;
+use text_load::Job;
+use tree_core::{JobBrand, Tree};
+
+/// Runs a job on its tree for at most `budget` inferences, by one worker, and writes its lines to `out`: to the byte, and with the
+/// ending and the numbers, the sequential run of the job. A run that a failed write or running out of memory cuts short has written
+/// a prefix of its text, and its numbers are 0. Where `window` nodes are live, only the leftmost alternative is handed out.
+///
+/// The handle stands for what is not proved here: that the run comes to its end.
+pub fn drive<R: Wait, K: Sink>(
+    rt: &R,
+    alloc: Global,
+    job: Job,
+    budget: u64,
+    window: u64,
+    out: &mut K,
+) -> RunEnd
+    ensures run { IsRun job budget (K.taken out.old) (K.taken out.new) result }
+    ensures fault { result.end ≡ RunEnding.WriteFault → Increased (K.faults out.old) (K.faults out.new) }
+    ensures quiet { result.end ≢ RunEnding.WriteFault → K.faults out.new ≡ K.faults out.old }
+    ensures faults_stay { K.faults out.old ≤ K.faults out.new }
+{
+    drive_job::<Brand, R, K>(rt, alloc, job, budget, window, out)
+}
+
+/// The same for the tree of the job.
+fn drive_job<J: JobBrand, R: Wait, K: Sink>(
+    rt: &R,
+    alloc: Global,
+    job: Job,
+    budget: u64,
+    window: u64,
+    out: &mut K,
+) -> RunEnd
+    requires { J.job ≡ job }
+    ensures run { IsRun job budget (K.taken out.old) (K.taken out.new) result }
+    ensures fault { result.end ≡ RunEnding.WriteFault → Increased (K.faults out.old) (K.faults out.new) }
+    ensures quiet { result.end ≢ RunEnding.WriteFault → K.faults out.new ≡ K.faults out.old }
+    ensures faults_stay { K.faults out.old ≤ K.faults out.new }
+{
+    match open::<J>(alloc, job, budget, window) {
+        Ok((tree, run)) => drive_on(rt, alloc, tree, run, budget, out),
+        Err(_) => cut_short(RunEnding::NoMemory),
+    }
+}
+
+/// The same from where the tree stands.
+fn drive_on<J: JobBrand, R: Wait, K: Sink>(
+    rt: &R,
+    alloc: Global,
+    tree: Tree<J>,
+    run: JobRun,
+    budget: u64,
+    out: &mut K,
+) -> RunEnd
+    requires budget { tree.history.budget ≡ budget }
+    requires driven { IsDriven tree.history }
+    requires run { IsJobRun tree.history run }
+    ensures run { IsRun tree.history.job budget (K.taken out.old) (K.taken out.new) result }
+    ensures fault { result.end ≡ RunEnding.WriteFault → Increased (K.faults out.old) (K.faults out.new) }
+    ensures quiet { result.end ≢ RunEnding.WriteFault → K.faults out.new ≡ K.faults out.old }
+    ensures faults_stay { K.faults out.old ≤ K.faults out.new }
+{
+    only_stops_stop();
+    let mut tree = tree;
+    let mut run = run;
+    let mut put = 0;
+    for _ in rt.forever() {
+        if let Some(end) = end_of(&tree, budget) {
+            return close(&run.world.out, put, end, out);
+        }
+        let Ok(()) = turn(&mut tree, &mut run, alloc, budget) else {
+            return cut_short(RunEnding::NoMemory);
+        };
+        // The proof reads off that what was written is a front of the job's text.
+        tree.keeps_promises();
+        match put_on(&run.world.out, put, PIECE, out) {
+            Ok(now) => put = now,
+            Err(_) => return cut_short(RunEnding::WriteFault),
+        }
+    }
+    unreachable!()
+}
+
+/// Puts out what was written behind so many bytes, and ends the run so, unless the write fails.
+fn close<K: Sink>(written: &[u8], put: usize, end: RunEnd, out: &mut K) -> RunEnd
+    requires { end.end ≢ RunEnding.WriteFault }
+    ensures closes { ClosesFrom written.now put (K.taken out.old) (K.taken out.new) end result }
+    ensures fault { result.end ≡ RunEnding.WriteFault → Increased (K.faults out.old) (K.faults out.new) }
+    ensures quiet { result.end ≢ RunEnding.WriteFault → K.faults out.new ≡ K.faults out.old }
+    ensures faults_stay { K.faults out.old ≤ K.faults out.new }
+{
+    match put_on(written, put, 1, out) {
+        Ok(_) => end,
+        Err(_) => cut_short(RunEnding::WriteFault),
+    }
+}
