@@ -1,5 +1,5 @@
-//! Tests of jobs that one worker drives on their trees, as the program would: the bytes, the ending and the numbers are those of the
-//! sequential machine.
+//! Tests of jobs that are driven on their trees: by one worker, as the program would, and by several whose tasks are out at once and
+//! come back in any order. Each time the bytes, the ending and the numbers are those of the sequential machine.
 #![tactic(auto)]
 
 #[cfg(test)]
@@ -7,4 +7,8 @@ mod alike;
 #[cfg(test)]
 mod driven;
 #[cfg(test)]
+mod interleaved;
+#[cfg(test)]
 mod random;
+#[cfg(test)]
+mod workers;
