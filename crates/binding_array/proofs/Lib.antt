@@ -1,1 +1,2 @@
 pub mod RepresentedLemmas
+pub mod SpareCellLemmas

@@ -3,29 +3,34 @@ ghost use Rattle.std.specs.Prelude.{◌≡◌, ◌<◌, ◌≤◌, [], MatchOpti
 ghost use Rattle.au_model.specs.Terms.Substitutions.{Substitution, value_of, resolve};
 ghost use Rattle.clause_compile.specs.Places.{CodeView};
 ghost use Rattle.binding_array.specs.Represented.{variable_cell, cell_term, IsValueFor, IsBoundCell, IsFollowed, IsStored, Represents};
+ghost use Rattle.binding_array.specs.SpareCells.{AddsFreeCells, AreFreed};
 
 use crate::cell::BindingCell;
 use au_term::NoMemory;
 use std::alloc::Global;
 use std::marker::Model;
 
+/// How many more cells are made than are needed.
+const ROOM: usize = 64;
+
 /// The cells of variables, by their numbers. Contracts see the cells.
 #[derive(Drop)]
 pub struct BindingArray {
+    /// The cells of the variables, and free ones for those to come, so that new variables seldom write any.
     cells: Vec<BindingCell>,
+    count: usize,
 }
 
 impl Model for BindingArray {
-    ghost use Rattle.std.specs.Prelude.{List};
+    ghost use Rattle.std.specs.Prelude.{List, take};
+    ghost use Rattle.binding_array.specs.SpareCells.{HasSpareCells};
     ghost use Rattle.binding_array.specs.declared.cell.BindingCell.{BindingCell};
 
     ghost Value = { List BindingCell };
 
-    ghost use Rattle.binding_array.specs.Represented.{AreFalling};
+    ghost view = { λ a. take a.count a.cells.items };
 
-    ghost view = { λ a. a.cells.items };
-
-    ghost invariant = { λ a. AreFalling a.cells.items };
+    ghost invariant = { λ a. HasSpareCells a.count a.cells.items };
 }
 
 impl BindingArray {
@@ -35,6 +40,7 @@ impl BindingArray {
     {
         BindingArray {
             cells: Vec::new(alloc),
+            count: 0,
         }
     }
 
@@ -43,7 +49,7 @@ impl BindingArray {
     pub fn len(&self) -> usize
         ensures { result ≡ length self.now }
     {
-        self.cells.len()
+        self.count
     }
 
     /// Makes cells for at least so many variables; new ones are free.
@@ -53,8 +59,11 @@ impl BindingArray {
         ensures same { (v : ℕ) → variable_cell self.new v ≡ variable_cell self.old v }
         ensures err { OnErr result (self.new ≡ self.old) }
     {
-        if self.cells.len() < to {
-            self.cells.resize(to, BindingCell::Free)?;
+        if self.count < to {
+            if self.cells.len() < to {
+                add_room(&mut self.cells, to)?;
+            }
+            self.count = to;
         }
         Ok(())
     }
@@ -64,7 +73,10 @@ impl BindingArray {
     pub fn cut_to(&mut self, count: usize)
         ensures { self.new ≡ take count self.old }
     {
-        self.cells.truncate(count);
+        if count < self.count {
+            free_between(&mut self.cells, count, self.count);
+            self.count = count;
+        }
     }
 
     /// What a variable is bound to, if it is bound.
@@ -115,5 +127,30 @@ impl BindingArray {
             BindingCell::Free => BindingCell::Var(at),
             value => value,
         }
+    }
+}
+
+/// Adds free cells, so that there are more than so many.
+#[inline(never)]
+fn add_room(cells: &mut Vec<BindingCell>, to: usize) -> Result<(), NoMemory>
+    requires { length cells.old.items < to }
+    ensures added { OnOk result (AddsFreeCells to cells.old.items cells.new.items) }
+    ensures err { OnErr result (cells.new.items ≡ cells.old.items) }
+{
+    cells.resize(to.saturating_add(ROOM), BindingCell::Free)?;
+    Ok(())
+}
+
+/// Frees the cells from one number up to another.
+#[inline]
+fn free_between(cells: &mut Vec<BindingCell>, from: usize, to: usize)
+    requires up { from ≤ to }
+    requires within { to ≤ length cells.old.items }
+    ensures { AreFreed from to cells.old.items cells.new.items }
+{
+    let mut at = from;
+    while at < to {
+        cells[at] = BindingCell::Free;
+        at += 1;
     }
 }

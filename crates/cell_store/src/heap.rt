@@ -23,9 +23,10 @@ pub(crate) struct Heap {
     program: Arc<Code>,
     names: AtomNumbers,
     places: HeapPlaces,
-    /// The last two numbers of names that were asked for, which need be those of no name.
+    /// The last three numbers of names that were asked for, which need be those of no name.
     recent: u32,
     older: u32,
+    oldest: u32,
 }
 
 impl Model for Heap {
@@ -52,6 +53,7 @@ impl Heap {
             places,
             recent: 0,
             older: 0,
+            oldest: 0,
         })
     }
 
@@ -218,7 +220,7 @@ impl Heap {
     }
 
     /// The number of a name, which gets the next one where it has none. The functors of a list and of its items come by turns,
-    /// so the last two numbers are looked at first.
+    /// so the last three numbers are looked at first.
     fn number(&mut self, name: &Atom) -> Result<u32, NoMemory>
         requires { IsSoundHeap self.old }
         ensures numbered { IfOk result (IsNumberedIn self.old self.new name.now) }
@@ -230,10 +232,25 @@ impl Heap {
         let number = if self.has_number(name, self.older) {
             self.older
         } else {
-            self.search_number(name)?
+            self.rarer_number(name)?
         };
         self.older = self.recent;
         self.recent = number;
+        Ok(number)
+    }
+
+    /// The same for a name that is none of the last two.
+    fn rarer_number(&mut self, name: &Atom) -> Result<u32, NoMemory>
+        requires { IsSoundHeap self.old }
+        ensures numbered { IfOk result (IsNumberedIn self.old self.new name.now) }
+        ensures grown { GrowsHeap self.old self.new }
+    {
+        let number = if self.has_number(name, self.oldest) {
+            self.oldest
+        } else {
+            self.search_number(name)?
+        };
+        self.oldest = self.older;
         Ok(number)
     }
 
