@@ -3,7 +3,7 @@ use Rattle.std.proofs.Common.{Box}
 use Rattle.std.specs.Global.{Global}
 use Rattle.au_term.specs.declared.flat.FlatTerm.{FlatTerm}
 use Rattle.std.proofs.Common.{◌≡◌, ℕ, suc, ◌+◌, ◌<◌, ◌≤◌, true, List, [], ◌∷◌, ◌++◌, length, Option, Some, None, refl, sym, ap, ap₂, ◌∙◌, subst, arith}
-use Rattle.au_term.specs.Term.{Term}
+use Rattle.au_term.specs.Term.{Term, argument_count}
 use Rattle.au_model.specs.Terms.Named.{NamedTerm}
 use Rattle.run_model.specs.Goals.GoalOutcomes.{outcome_of}
 use Rattle.run_model.specs.Goals.Outcomes.{Solutions, Ball, HaltNumber, Outcome, Replies, Controls, AskWorld}
@@ -11,8 +11,11 @@ use Rattle.run_model.specs.Machine.Entries.{Entry, EndEntry}
 use Rattle.run_model.specs.Machine.Items.{Continuation}
 use Rattle.run_model.specs.Machine.States.{State, step, with_free_steps, entry_taken, goal_taken, with_entries}
 use Rattle.run_model.specs.Programs.Clauses.{Clause}
+use Rattle.binding_array.specs.declared.cell.BindingCell.{BindingCell}
 use Rattle.binding_array.specs.declared.cell.BindingCell.TheVariants.{Compound}
 use Rattle.run_model.proofs.StepLemmas.{step_is}
+use Rattle.run_model.specs.Machine.FreeSteps.{take_free_steps}
+use Rattle.region_split.specs.QueryEnds.{AreEndsOldest}
 use Rattle.region_split.specs.ChoicePoints.{height_of_cut}
 use Rattle.region_split.specs.ClauseTrials.{entries_at, Calls, IsOptionalPosition}
 use Rattle.region_split.specs.Texts.{TextView}
@@ -30,12 +33,15 @@ use Rattle.region_control.specs.declared.replies.AfterGoal.{AfterGoal}
 use Rattle.region_control.specs.declared.replies.AfterGoal.TheVariants.{At, Failed, Uncaught, AsksWorld}
 use Rattle.region_control.specs.GoalForms.{IsFormOf}
 use Rattle.region_control.specs.declared.forms.GoalForm.{GoalForm}
-use Rattle.cell_store.specs.StoreView.{meaning, text_in}
+use Rattle.au_model.specs.Terms.Substitutions.{resolve}
+use Rattle.cell_store.proofs.WritingLemmas.{how_many}
+use Rattle.cell_store.specs.Arguments.{HasFunctor}
+use Rattle.cell_store.specs.StoreView.{StoreView, meaning, substitution, text_in}
 use Rattle.clause_compile.specs.AtomNumbers.{name_at}
 use Rattle.goal_kinds.specs.Kinds.{IsKindOf}
 use Rattle.goal_kinds.specs.declared.kind.GoalKind.{GoalKind}
 use Rattle.region_run.specs.Inferences.{is_procedure_call, item_goal, Infers, InfersItem}
-use Rattle.region_run.specs.Runs.{run_on, AsksWorldNext, IsStop, Runs, stop_entries, stop_of}
+use Rattle.region_run.specs.Runs.{run_on, AsksWorldNext, GoesOnFrom, IsStop, Runs, TakesFirst, TakesCompoundFirst, TakesCall, stop_entries, stop_of}
 use Rattle.region_run.proofs.InferenceLemmas.{item_infers, called_at, called_none, calls_defined}
 use Rattle.region_run.specs.declared.running.Ran.{Ran}
 use Rattle.region_run.specs.declared.running.Stop.TheVariants as stop
@@ -191,16 +197,6 @@ module _ (old r r1 : RegionView) (start next : Option Position) (taken : ℕ) (w
         stops = is_stop r1 limit taken a l.there full;
       })
 
--- the goal that stood first was taken
-pub record TakesFirst (r r2 : RegionView) (next : Option Position) (i : FrameItem) (g : GoalPlace) (after : AfterGoal) : Type 0 where
-  pub between : RegionView
-  pub ahead : LiesAhead r between next (ahead.Goal i g)
-  pub kept : between.text ≡ r.text
-  pub stayed : between.store.floor ≡ r.store.floor
-  pub infers : InfersItem between r2 i g after
-  pub text : r2.text ≡ between.text
-  pub floor : r2.store.floor ≡ between.store.floor
-
 -- one more
 module _ (old r r2 : RegionView) (start next : Option Position) (taken : ℕ) (w : IsRunning old r start next taken) (i : FrameItem) (g : GoalPlace) (after : AfterGoal) (f : TakesFirst r r2 next i g after) where
   abbrev goal_state : List NamedTerm → State → State
@@ -258,28 +254,57 @@ module _ (old r r2 : RegionView) (start next : Option Position) (taken : ℕ) (w
         stops = asks.0;
       }
 
--- a compound that stood first was taken
-pub takes_compound : (r r2 : RegionView) (next : Option Position) (g : CompoundAhead) (after : AfterGoal) → LiesAhead r r next (compound_goal g) → Infers r r2 (meaning r.store (Compound g.at g.base)) g.place after → r2.text ≡ r.text → r2.store.floor ≡ r.store.floor
-    → TakesFirst r r2 next (item.Goal (Compound g.at g.base)) g.place after
-takes_compound r r2 next g after l x text floor = record {
-  between = r;
-  ahead = l;
-  kept = refl;
-  stayed = refl;
-  infers = item_infers r r2 (item.Goal (Compound g.at g.base)) g.place after (meaning r.store (Compound g.at g.base)) refl x;
-  text = text;
-  floor = floor;
-}
+-- a compound has arguments
+has_arguments : (st : StoreView) (at base f n : ℕ) → HasFunctor (text_in st) st.now.next at base f n → 0 < argument_count (meaning st (Compound at base))
+has_arguments st at base f n h =
+    subst (λ t. 0 < argument_count (resolve (substitution st) t)) (sym h.term)
+    (subst (λ k. 0 < k) (sym (how_many (substitution st) (text_in st) base n (at + 1))) h.arity.0)
+
+-- a compound that stood first where the run goes on was taken
+module _ (old r r2 : RegionView) (start next : Option Position) (goes : GoesOnFrom old r start next) (same_text : r.text ≡ old.text) (same_floor : r.store.floor ≡ old.store.floor)
+    (ends : AreEndsOldest r.choices) (marks : length r.store.marks ≡ length r.choices) (g : CompoundAhead) (l : LiesAhead r r next (compound_goal g))
+    (f n : ℕ) (functor : HasFunctor (text_in r.store) r.store.now.next g.at g.base f n) where
+  abbrev goal : BindingCell
+  goal = Compound g.at g.base
+
+  pub takes_compound : (after : AfterGoal) → Infers r r2 (meaning r.store goal) g.place after → r2.text ≡ r.text → r2.store.floor ≡ r.store.floor
+      → TakesCompoundFirst old r2 start (item.Goal goal) g.place after
+  takes_compound after x text floor = record {
+    first = record {
+      between = r;
+      ahead = record { entries = λ named. ap take_free_steps (goes.entries named) ∙ l.entries named; there = l.there };
+      kept = same_text;
+      stayed = same_floor;
+      infers = item_infers r r2 (item.Goal goal) g.place after (meaning r.store goal) refl x;
+      text = text;
+      floor = floor;
+    };
+    compound = tt;
+    arguments = has_arguments r.store g.at g.base f n functor;
+    ends = ends;
+    marks = marks;
+  }
+
+  -- a call is one
+  pub takes_call : (form : GoalForm) → IsFormOf r.store goal form → (k : GoalKind) → IsKindOf (name_at (text_in r.store).names form.name) form.arguments.count k → is_procedure_call r k form ≡ true
+      → (reached : Option Position) → Calls r r2 goal g.place.after reached → TakesCall old r2 start reached
+  takes_call form is k known calls (Some p) c =
+      let d = calls_defined r goal form is k known calls in
+      record {
+        item = item.Goal goal;
+        place = g.place;
+        call = takes_compound (At p) (called_at r (meaning r.store goal) g.place is.callable d.0 d.1 r2 goal refl p c) c.text c.floor;
+      }
+  takes_call form is k known calls None c =
+      let d = calls_defined r goal form is k known calls in
+      record {
+        item = item.Goal goal;
+        place = g.place;
+        call = takes_compound Failed (called_none r (meaning r.store goal) g.place is.callable d.0 d.1 r2 goal refl c) c.text c.floor;
+      }
 
 -- a call is one more
-module _ (old r : RegionView) (start next : Option Position) (taken : ℕ) (w : IsRunning old r start next taken) (g : CompoundAhead) (l : LiesAhead r r next (compound_goal g)) (form : GoalForm) (is : IsFormOf r.store (Compound g.at g.base) form) where
-  pub calls_on : (k : GoalKind) → IsKindOf (name_at (text_in r.store).names form.name) form.arguments.count k → is_procedure_call r k form ≡ true
-      → (r2 : RegionView) (reached : Option Position) → Calls r r2 (Compound g.at g.base) g.place.after reached → IsRunning old r2 start reached (taken + 1)
-  calls_on k known calls r2 (Some p) c =
-      let goal = Compound g.at g.base in
-      let d = calls_defined r goal form is k known calls in
-      goes_on_at old r r2 start next taken w (item.Goal goal) g.place (At p) (takes_compound r r2 next g (At p) l (called_at r (meaning r.store goal) g.place is.callable d.0 d.1 r2 goal refl p c) c.text c.floor) p refl
-  calls_on k known calls r2 None c =
-      let goal = Compound g.at g.base in
-      let d = calls_defined r goal form is k known calls in
-      fails_on old r r2 start next taken w (item.Goal goal) g.place Failed (takes_compound r r2 next g Failed l (called_none r (meaning r.store goal) g.place is.callable d.0 d.1 r2 goal refl c) c.text c.floor) refl
+module _ (old r r2 : RegionView) (start next : Option Position) (taken : ℕ) (w : IsRunning old r start next taken) where
+  pub calls_on : (reached : Option Position) → TakesCall r r2 next reached → IsRunning old r2 start reached (taken + 1)
+  calls_on (Some p) c = goes_on_at old r r2 start next taken w c.item c.place (At p) c.call.first p refl
+  calls_on None c = fails_on old r r2 start next taken w c.item c.place Failed c.call.first refl

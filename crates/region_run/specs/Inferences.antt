@@ -1,10 +1,11 @@
 -- One inference in a region (ISO/IEC 13211-1, 7.7 and 7.8).
-use Rattle.std.specs.Prelude.{◌≡◌, Bool, false, Option, Some, None, codes}
-use Rattle.au_term.specs.Term.{Term, AtomTerm}
+use Rattle.std.specs.Prelude.{◌≡◌, ◌<◌, Bool, false, Option, Some, None, IsSomeAnd, codes}
+use Rattle.au_term.specs.Term.{Term, AtomTerm, argument_count}
 use Rattle.run_model.specs.Goals.GoalOutcomes.{outcome_of}
 use Rattle.run_model.specs.Programs.Bodies.{call_of}
 use Rattle.run_model.specs.Programs.Clauses.{is_defined}
 use Rattle.clause_compile.specs.AtomNumbers.{name_at}
+use Rattle.binding_array.specs.declared.cell.BindingCell.TheVariants.{Compound}
 use Rattle.goal_kinds.specs.declared.kind.GoalKind.{GoalKind}
 use Rattle.goal_kinds.specs.declared.kind.GoalKind.TheVariants as kind
 use Rattle.cell_store.specs.StoreView.{StoreView, meaning, text_in}
@@ -26,6 +27,15 @@ item_goal st Fail = Some (AtomTerm (codes "fail"))
 item_goal st CatchEnd = None
 item_goal st (Collect value) = None
 item_goal st (Removal number) = None
+
+-- the goal of a compound
+abbrev pub IsCompoundItem : FrameItem → Type 0
+IsCompoundItem (Goal (Compound at base)) = Unit {0}
+IsCompoundItem _ = ⊥
+
+-- the goal has arguments, as that of a compound has
+abbrev pub HasArguments : StoreView → FrameItem → Type 0
+HasArguments st item = IsSomeAnd (item_goal st item) (λ goal. 0 < argument_count goal)
 
 -- whether a goal of a kind calls a procedure of the text
 abbrev pub is_procedure_call : RegionView → GoalKind → GoalForm → Bool

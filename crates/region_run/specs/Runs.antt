@@ -11,11 +11,16 @@ use Rattle.region_split.specs.Regions.{RegionView, entries_of, position_entry, I
 use Rattle.region_split.specs.ClauseTrials.{IsOptionalPosition, entries_at}
 use Rattle.region_split.specs.declared.frame.FrameItem.{FrameItem}
 use Rattle.region_split.specs.declared.frame.Position.{Position}
-use Rattle.region_control.specs.Ahead.{IsGoalThere, IsNothingLeft, goal_entry, removal_entry}
+use Rattle.region_split.specs.QueryEnds.{AreEndsOldest}
+use Rattle.region_control.specs.Ahead.{IsGoalThere, IsNothingLeft, LiesAhead, goal_entry, removal_entry}
 use Rattle.region_control.specs.declared.ahead.Ahead.{Ahead}
 use Rattle.region_control.specs.declared.ahead.Ahead.TheVariants as ahead
 use Rattle.region_control.specs.declared.control.GoalPlace.{GoalPlace}
-use Rattle.region_run.specs.Inferences.{item_goal}
+use Rattle.region_control.specs.declared.replies.AfterGoal.{AfterGoal}
+use Rattle.region_control.specs.declared.replies.AfterGoal.TheVariants.{At, Failed}
+use Rattle.region_run.specs.Inferences.{item_goal, HasArguments, InfersItem, IsCompoundItem}
+use Rattle.region_run.specs.declared.compounds.Taken.{Taken}
+use Rattle.region_run.specs.declared.compounds.Taken.TheVariants as taken
 use Rattle.region_run.specs.declared.running.Ran.{Ran}
 use Rattle.region_run.specs.declared.running.Stop.{Stop}
 use Rattle.region_run.specs.declared.running.Stop.TheVariants.{Limit, World, Removal, Answer, QueryDone, AllDone}
@@ -63,6 +68,46 @@ pub record Runs (old new : RegionView) (start : Option Position) (limit : ℕ) (
       → run_on old.text.clauses ran.taken (with_free_steps st) ≡ record st { entries = stop_entries named new ran.stop; inferences = st.inferences + ran.taken }
   pub within : ran.taken ≤ limit
   pub stops : IsStop new limit ran ran.stop
+
+-- the goal that stood first was taken, after all free steps
+pub record TakesFirst (old new : RegionView) (start : Option Position) (item : FrameItem) (g : GoalPlace) (after : AfterGoal) : Type 0 where
+  pub between : RegionView
+  pub ahead : LiesAhead old between start (ahead.Goal item g)
+  pub kept : between.text ≡ old.text
+  pub stayed : between.store.floor ≡ old.store.floor
+  pub infers : InfersItem between new item g after
+  pub text : new.text ≡ between.text
+  pub floor : new.store.floor ≡ between.store.floor
+
+-- and it is a compound; the ends of queries were the oldest choice points then, each of which had its mark
+pub record TakesCompoundFirst (old new : RegionView) (start : Option Position) (item : FrameItem) (g : GoalPlace) (after : AfterGoal) : Type 0 where
+  pub first : TakesFirst old new start item g after
+  pub compound : IsCompoundItem item
+  pub arguments : HasArguments first.between.store item
+  pub ends : AreEndsOldest first.between.choices
+  pub marks : length first.between.store.marks ≡ length first.between.choices
+
+-- a call has come to a clause, or to none
+abbrev pub after_call : Option Position → AfterGoal
+after_call (Some p) = At p
+after_call None = Failed
+
+pub record TakesCall (old new : RegionView) (start next : Option Position) : Type 0 where
+  pub item : FrameItem
+  pub place : GoalPlace
+  pub call : TakesCompoundFirst old new start item place (after_call next)
+
+-- nothing but a free step was taken
+pub record TakesNothing (old new : RegionView) (start next : Option Position) : Type 0 where
+  pub goes : GoesOnFrom old new start next
+  pub text : new.text ≡ old.text
+  pub floor : new.store.floor ≡ old.store.floor
+
+-- a compound that stands first is taken
+abbrev pub TakesCompound : RegionView → RegionView → Option Position → Taken → Type 0
+TakesCompound old new start (taken.Called next) = TakesCall old new start next
+TakesCompound old new start (taken.Goal item g after) = TakesCompoundFirst old new start item g after
+TakesCompound old new start (taken.Nothing next) = TakesNothing old new start next
 
 -- where a run stops that takes no more goal
 abbrev pub stop_of : Ahead → Stop

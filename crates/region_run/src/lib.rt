@@ -3,6 +3,7 @@
 //! where they are.
 #![tactic(auto)]
 
+mod compounds;
 mod constructs;
 mod inference;
 mod kinds;
@@ -10,5 +11,6 @@ mod openings;
 mod running;
 mod throws;
 
+pub use compounds::{Taken, take_compound};
 pub use inference::infer;
 pub use running::{Ran, Stop, run};

@@ -1,18 +1,13 @@
 //! Runs of a region.
-ghost use Rattle.std.specs.Prelude.{◌≡◌, IfOk, IfSome, None, OnOk, length};
+ghost use Rattle.std.specs.Prelude.{◌≡◌, IfOk, OnOk, length};
 ghost use Rattle.region_split.specs.ClauseTrials.{IsOptionalPosition};
-ghost use Rattle.region_control.specs.Ahead.{compound_goal, LiesAhead};
-ghost use Rattle.region_run.specs.Runs.{GoesOnFrom, Runs, stop_of};
+ghost use Rattle.region_run.specs.Runs.{Runs, stop_of};
 
-use crate::inference::{calls_procedure, infer, taken_by_kind};
-use crate::kinds::kind_of;
+use crate::compounds::{Taken, take_compound};
+use crate::inference::infer;
 use au_term::{FlatTerm, NoMemory};
-use binding_array::BindingCell;
 use goal_kinds::GoalKinds;
-use region_control::{
-    AfterGoal, Ahead, CompoundAhead, GoalPlace, compound_ahead, compound_form, look_ahead,
-};
-use region_split::keys::compound_numbers;
+use region_control::{AfterGoal, Ahead, GoalPlace, look_ahead};
 use region_split::{FrameItem, Position, Region};
 use std::alloc::Global;
 
@@ -58,22 +53,14 @@ pub fn run(
     let mut next = start;
     let mut taken = 0;
     while taken < limit {
-        let start = go_on(region, next)?;
-        let (item, place, after) = match compound_first(region, start)? {
-            Some(compound) => {
-                let goal = BindingCell::Compound(compound.at, compound.base);
-                let form = compound_form(region.store(), compound.at, compound.base);
-                let kind = kind_of(kinds, region.store(), form.name, form.arguments.count);
-                if calls_procedure(region, kind, form) {
-                    let numbers = compound_numbers(region.store(), compound.at, compound.base);
-                    next = region.call_by(goal, numbers, compound.place.after)?;
-                    taken += 1;
-                    continue;
-                }
-                let after = taken_by_kind(region, alloc, kind, goal, form, compound.place)?;
-                (FrameItem::Goal(goal), compound.place, after)
+        let (item, place, after) = match take_compound(region, alloc, kinds, next)? {
+            Taken::Called(position) => {
+                next = position;
+                taken += 1;
+                continue;
             }
-            None => match look_ahead(region, alloc, start)? {
+            Taken::Goal(item, place, after) => (item, place, after),
+            Taken::Nothing(start) => match look_ahead(region, alloc, start)? {
                 Ahead::Goal(item, place) => {
                     (item, place, infer(region, alloc, kinds, item, place)?)
                 }
@@ -99,51 +86,6 @@ pub fn run(
     }
     let ahead = look_ahead(region, alloc, next)?;
     Ok(stopped(taken, ahead))
-}
-
-/// Where nothing goes on at a position, tries the clause that the newest choice point has next, if it stands for clauses, and
-/// gives the position at which its body goes on if its head unifies. That is a free step.
-#[inline(always)]
-fn go_on(region: &mut Region, start: Option<Position>) -> Result<Option<Position>, NoMemory>
-    requires { IsOptionalPosition region.old (length region.old.choices) start }
-    ensures goes { IfOk result (GoesOnFrom region.old region.new start) }
-    ensures text { OnOk result (region.new.text ≡ region.old.text) }
-    ensures floor { OnOk result (region.new.store.floor ≡ region.old.store.floor) }
-{
-    match start {
-        Some(_) => Ok(start),
-        None => try_next(region),
-    }
-}
-
-/// The same where nothing goes on.
-#[inline(always)]
-fn try_next(region: &mut Region) -> Result<Option<Position>, NoMemory>
-    ensures goes { IfOk result (GoesOnFrom region.old region.new None) }
-    ensures text { OnOk result (region.new.text ≡ region.old.text) }
-    ensures floor { OnOk result (region.new.store.floor ≡ region.old.store.floor) }
-{
-    let count = region.scope()?;
-    match region.next_clause() {
-        Some(trial) => region.try_clause(trial, count - 1),
-        None => Ok(None),
-    }
-}
-
-/// The goal that stands first at a position, if it is a compound.
-#[inline(always)]
-fn compound_first(
-    region: &Region,
-    start: Option<Position>,
-) -> Result<Option<CompoundAhead>, NoMemory>
-    requires { IsOptionalPosition region.now (length region.now.choices) start }
-    ensures { IfOk result (λ found. IfSome found (λ g. LiesAhead region.now region.now start (compound_goal g))) }
-{
-    let Some(position) = start else {
-        return Ok(None);
-    };
-    let left = region.left_at(position);
-    compound_ahead(region, position, left)
 }
 
 /// How far a region came that takes no more goal.

@@ -11,4 +11,5 @@ mod StandingRunLemmas
 mod AheadLemmas
 mod RoundLemmas
 mod RunningLemmas
+mod CompoundRoundLemmas
 pub mod ResultLemmas

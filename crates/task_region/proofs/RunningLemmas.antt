@@ -29,7 +29,7 @@ pub record IsRunning (old here : TaskView) (taken : ℕ) : Type 0 where
   pub way : IsUnderWay here
   pub same : SameTask old here
 
-same_twice : (x y z : TaskView) → SameTask x y → SameTask y z → SameTask x z
+pub same_twice : (x y z : TaskView) → SameTask x y → SameTask y z → SameTask x z
 same_twice x y z a b = record { text = b.text ∙ a.text; start = b.start ∙ a.start; floor = b.floor ∙ a.floor; variables = b.variables ∙ a.variables; deferred = b.deferred ∙ a.deferred }
 
 -- a round is what lies ahead, or what is taken of it

@@ -1,12 +1,19 @@
 -- One round of a task: what lies ahead of it, and one goal that is taken.
 use Rattle.std.specs.Prelude.{◌≡◌, ◌+◌, ℕ, Bool, true, false, ◌<◌, ◌≤◌, List, length, Option}
+use Rattle.au_model.specs.Terms.Each.{Each}
 use Rattle.au_model.specs.Terms.Named.{NamedTerm}
+use Rattle.region_split.specs.QueryEnds.{AreEndsOldest}
+use Rattle.region_split.specs.Regions.{RegionView}
 use Rattle.region_split.specs.ClauseTrials.{IsOptionalPosition}
 use Rattle.region_split.specs.declared.frame.FrameItem.{FrameItem}
 use Rattle.region_split.specs.declared.frame.Position.{Position}
 use Rattle.region_control.specs.Ahead.{IsGoalThere}
 use Rattle.region_control.specs.declared.control.GoalPlace.{GoalPlace}
+use Rattle.region_control.specs.declared.replies.AfterGoal.{AfterGoal}
+use Rattle.region_run.specs.Inferences.{InfersItem}
 use Rattle.region_floor.specs.RegionRuns.{RegionRun, StandsAfter}
+use Rattle.task_region.specs.CutGoals.{IsCutItem}
+use Rattle.task_region.specs.DeferredItems.{IsDeferredOver}
 use Rattle.task_region.specs.TaskViews.{TaskView, goal_stack}
 use Rattle.task_region.specs.TaskStandings.{IsOwnRun, StandsOnRun}
 use Rattle.task_region.specs.TaskStops.{IsBall, IsLimit, IsNextFor, LeavesNext, SameTask, StopsTask}
@@ -44,6 +51,17 @@ RoundStands r k named t (Stops stop next) = StopsTask r k named (record t { next
 abbrev pub IsRoundThere : TaskView → Bool → TaskRound → Type 0
 IsRoundThere t more (GoesOn next) = IsOptionalPosition t.region (length t.region.choices) next × (more ≡ true)
 IsRoundThere t more (Stops stop next) = IsStopThere t stop next × (IsLimit stop → more ≡ false) × (IsBall stop → more ≡ true)
+
+-- a goal of a task was taken, which is no cut to its floor
+pub record TakesOwnGoal (t : TaskView) (new : RegionView) (item : FrameItem) (g : GoalPlace) (after : AfterGoal) : Type 0 where
+  pub there : IsGoalThere t.region item g
+  pub infers : InfersItem t.region new item g after
+  pub uncut : g.cut < t.floor → IsCutItem t.region.store item → ⊥
+  pub deferred : Each (IsDeferredOver t.variables t.floor) t.deferred
+  pub ends : AreEndsOldest t.region.choices
+  pub marks : length t.region.store.marks ≡ length t.region.choices
+  pub text : new.text ≡ t.region.text
+  pub start : new.store.floor ≡ t.region.store.floor
 
 -- from a goal
 pub record TakesGoalNext (old new : TaskView) (item : FrameItem) (g : GoalPlace) (more : Bool) (round : TaskRound) : Type 0 where

@@ -1,12 +1,12 @@
 //! Rounds of a task, each of which takes one inference or stops.
-ghost use Rattle.std.specs.Prelude.{◌≡◌, IfOk, None, map};
+ghost use Rattle.std.specs.Prelude.{◌≡◌, IfOk, None, map, true};
 ghost use Rattle.au_model.specs.Terms.Each.{Each};
 ghost use Rattle.region_control.specs.Ahead.{IsGoalThere};
 ghost use Rattle.task_region.specs.DeferredItems.{item_of, IsDeferredOver};
 ghost use Rattle.task_region.specs.GoalLoads.{LeavesGoal};
 ghost use Rattle.task_region.specs.TaskStandings.{IsUnderWay};
-ghost use Rattle.task_region.specs.TaskViews.{view_of_task};
-ghost use Rattle.task_region.specs.TaskRounds.{TakesGoalNext, PassesRound};
+ghost use Rattle.task_region.specs.TaskViews.{TaskView, view_of_task};
+ghost use Rattle.task_region.specs.TaskRounds.{TakesGoalNext, TakesOwnGoal, PassesRound};
 
 use crate::ahead::{TaskAhead, task_ahead};
 use crate::cuts::cuts_to_floor;
@@ -15,7 +15,7 @@ use crate::start::TaskStart;
 use au_term::NoMemory;
 use goal_kinds::GoalKinds;
 use region_control::{AfterGoal, GoalPlace};
-use region_run::infer;
+use region_run::{Taken, infer, take_compound};
 use region_split::{FrameItem, Position, Region};
 use std::alloc::Global;
 
@@ -28,9 +28,35 @@ pub(crate) enum TaskRound {
     Stops(TaskStop, Option<Position>),
 }
 
-/// Takes one inference, if one more may be taken, or tells why the run stops.
+/// Takes one inference, if one more may be taken, or tells why the run stops. A compound that stands first, as most goals do, is
+/// taken at once.
 #[inline]
 pub(crate) fn pass_round(
+    region: &mut Region,
+    alloc: Global,
+    kinds: &GoalKinds,
+    task: &TaskStart,
+    start: Option<Position>,
+    more: bool,
+) -> Result<TaskRound, NoMemory>
+    requires way { IsUnderWay (view_of_task region.old task.now start) }
+    requires kinds { kinds.now ≡ region.old.text.code.names }
+    ensures { IfOk result (PassesRound (view_of_task region.old task.now start) (view_of_task region.new task.now None) more) }
+{
+    if !more {
+        return pass_any_round(region, alloc, kinds, task, start, more);
+    }
+    let taken = take_compound(region, alloc, kinds, start)?;
+    match taken {
+        Taken::Called(next) => Ok(TaskRound::GoesOn(next)),
+        Taken::Goal(item, place, after) => after_goal(region, item, place, after),
+        Taken::Nothing(next) => pass_any_round(region, alloc, kinds, task, next, more),
+    }
+}
+
+/// The same, whatever lies ahead.
+#[inline(never)]
+fn pass_any_round(
     region: &mut Region,
     alloc: Global,
     kinds: &GoalKinds,
@@ -74,6 +100,20 @@ fn take_goal(
         return Ok(TaskRound::Stops(TaskStop::Limit, Some(position)));
     }
     let after = infer(region, alloc, kinds, item, place)?;
+    after_goal(region, item, place, after)
+}
+
+/// What a round comes to in which a goal was taken: where the world is asked, the goal is left where it stood.
+#[inline]
+fn after_goal(
+    region: &mut Region,
+    item: FrameItem,
+    place: GoalPlace,
+    after: AfterGoal,
+) -> Result<TaskRound, NoMemory>
+    requires { after ≡ AfterGoal.AsksWorld → IsGoalThere region.old item place }
+    ensures { (t : TaskView) → TakesOwnGoal t region.old item place after → IfOk result (TakesGoalNext t (record t { region = region.new; next = None }) item place true) }
+{
     match after {
         AfterGoal::At(position) => Ok(TaskRound::GoesOn(Some(position))),
         AfterGoal::Failed => Ok(TaskRound::GoesOn(None)),

@@ -1,4 +1,4 @@
-use Rattle.std.proofs.Common.{◌≡◌, refl, sym, subst}
+use Rattle.std.proofs.Common.{refl, sym, subst}
 use Rattle.std.specs.Prelude.{◌==◌, IsSome, IsTrue, ◌↔◌}
 use Rattle.task_region.specs.TaskResults.{HasNoChoice}
 use Rattle.task_region.specs.TaskViews.{TaskView, view_of_task}

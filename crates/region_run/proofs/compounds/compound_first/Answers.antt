@@ -3,7 +3,7 @@ use Rattle.std.specs.Prelude.{IfOk, IfSome, MatchOption}
 use Rattle.std.proofs.lemmas.Result.{IfOk-weaker}
 use Rattle.region_control.specs.Ahead.{compound_goal, LiesAhead}
 use Rattle.region_control.specs.declared.ahead.CompoundAhead.{CompoundAhead}
-use Rattle.region_run.proofs.running.compound_first.Goals as goal
+use Rattle.region_run.proofs.compounds.compound_first.Goals as goal
 
 if_some : (o : Option CompoundAhead) (P : Type 0) (Q : CompoundAhead → Type 0) → MatchOption o P Q → IfSome o Q
 if_some (Some g) P Q k = k

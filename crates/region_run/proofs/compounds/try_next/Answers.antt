@@ -1,7 +1,7 @@
 use Rattle.std.proofs.Common.{◌-◌, ap}
 use Rattle.std.proofs.lemmas.Result.{IfOk-weaker}
 use Rattle.region_run.proofs.GoingOnLemmas.{tried_next}
-use Rattle.region_run.proofs.running.try_next.Goals as goal
+use Rattle.region_run.proofs.compounds.try_next.Goals as goal
 
 pub returns-in-Some-clause-goes : goal.returns-in-Some-clause-goes
 returns-in-Some-clause-goes c =
