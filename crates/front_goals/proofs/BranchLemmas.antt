@@ -14,13 +14,13 @@ use Rattle.region_split.specs.Solutions.{SolutionView, solution_at, IsSolutionAt
 use Rattle.region_split.specs.StackOperations.{IsSolutionHere, solution_here}
 use Rattle.region_split.specs.declared.frame.Position.{Position}
 use Rattle.region_split.proofs.SolutionLemmas.{solution_there, solutions_same}
-use Rattle.front_goals.specs.SolutionBranches.{AreBranchesOf, IsBranchOr}
-use Rattle.front_goals.specs.SolvedSolutions.{IsTakenBack}
+use Rattle.front_goals.specs.SolutionBranches.{AreSolutionBranches, IsSolutionBranchOr}
+use Rattle.front_goals.specs.SolvedSolutions.{IsRegionTakenBack}
 
-pub stays_as_it_is : (r : RegionView) (position : Position) → IsPositionIn r position → IsTakenBack r r position
+pub stays_as_it_is : (r : RegionView) (position : Position) → IsPositionIn r position → IsRegionTakenBack r r position
 stays_as_it_is r position h = record { now = refl; floor = refl; keeps = keeps_same (text_in r.store); there = h }
 
-pub back_twice : (a b c : RegionView) (position : Position) → IsTakenBack a b position → IsTakenBack b c position → IsTakenBack a c position
+pub back_twice : (a b c : RegionView) (position : Position) → IsRegionTakenBack a b position → IsRegionTakenBack b c position → IsRegionTakenBack a c position
 back_twice a b c position p q = record {
   now = q.now ∙ p.now;
   floor = q.floor ∙ p.floor;
@@ -28,7 +28,7 @@ back_twice a b c position p q = record {
   there = q.there;
 }
 
-module _ (r0 r : RegionView) (position : Position) (back : IsTakenBack r0 r position) where
+module _ (r0 r : RegionView) (position : Position) (back : IsRegionTakenBack r0 r position) where
   pub here_still : (s : SolutionView) → IsSolutionHere r0 s → IsSolutionHere r s
   here_still s here =
       subst (λ (m : Moment). IsSolutionAt (text_in r.store) m.next s) (sym back.now) (solution_there (text_in r0.store) (text_in r.store) r0.store.now.next back.keeps s here)
@@ -42,8 +42,8 @@ module _ (r0 r : RegionView) (position : Position) (back : IsTakenBack r0 r posi
       first_same e = cc
 
   -- a branch of what was taken back to is one of where it began
-  pub branch_back : (node : ℕ) (follows : List Item) (s : SolutionView) → IsSolutionHere r0 s → (o : Option Branch) → IsBranchOr r node follows s o
-      → IsBranchOr r0 node follows s o
+  pub branch_back : (node : ℕ) (follows : List Item) (s : SolutionView) → IsSolutionHere r0 s → (o : Option Branch) → IsSolutionBranchOr r node follows s o
+      → IsSolutionBranchOr r0 node follows s o
   branch_back node follows s here None h = sym (ap (λ (x : Solution). unifier x.equations) (same_solution s here)) ∙ h
   branch_back node follows s here (Some b) h = record {
     solves = record {
@@ -62,21 +62,21 @@ module _ (r0 r : RegionView) (position : Position) (back : IsTakenBack r0 r posi
 module _ (r : RegionView) (node : ℕ) (follows : List Item) (all : List SolutionView) where
   -- whatever branches the solutions have that are left, with these before them they are those of all
   abbrev pub AreFirst : List SolutionView → List Branch → Type 0
-  AreFirst left made = (rest : List Branch) → AreBranchesOf r node follows left rest → AreBranchesOf r node follows all (made ++ rest)
+  AreFirst left made = (rest : List Branch) → AreSolutionBranches r node follows left rest → AreSolutionBranches r node follows all (made ++ rest)
 
   pub one_more : (s : SolutionView) (old left : List SolutionView) (made now : List Branch) (o : Option Branch) → AreFirst old made → old ≡ s ∷ left
-      → IsBranchOr r node follows s o → now ≡ made ++ option_to_list o → AreFirst left now
+      → IsSolutionBranchOr r node follows s o → now ≡ made ++ option_to_list o → AreFirst left now
   one_more s old left made now None first were h are rest others =
-      subst (λ (xs : List Branch). AreBranchesOf r node follows all (xs ++ rest)) (sym (are ∙ append-nil made))
-      (first rest (subst (λ ss. AreBranchesOf r node follows ss rest) (sym were) (inl (h, others))))
+      subst (λ (xs : List Branch). AreSolutionBranches r node follows all (xs ++ rest)) (sym (are ∙ append-nil made))
+      (first rest (subst (λ ss. AreSolutionBranches r node follows ss rest) (sym were) (inl (h, others))))
   one_more s old left made now (Some b) first were h are rest others =
-      subst (AreBranchesOf r node follows all) (sym (ap (λ (xs : List Branch). xs ++ rest) are ∙ append_assoc made (b ∷ []) rest))
-      (first (b ∷ rest) (subst (λ ss. AreBranchesOf r node follows ss (b ∷ rest)) (sym were)
+      subst (AreSolutionBranches r node follows all) (sym (ap (λ (xs : List Branch). xs ++ rest) are ∙ append_assoc made (b ∷ []) rest))
+      (first (b ∷ rest) (subst (λ ss. AreSolutionBranches r node follows ss (b ∷ rest)) (sym were)
       (inr (record { branch = b; others = rest; are = refl; own = h; rest = others }))))
 
-  pub all_made : (left : List SolutionView) (made : List Branch) → AreFirst left made → left ≡ [] → AreBranchesOf r node follows all made
+  pub all_made : (left : List SolutionView) (made : List Branch) → AreFirst left made → left ≡ [] → AreSolutionBranches r node follows all made
   all_made left made first none =
-      subst (AreBranchesOf r node follows all) (append-nil made) (first [] (subst (λ ss. AreBranchesOf r node follows ss []) (sym none) refl))
+      subst (AreSolutionBranches r node follows all) (append-nil made) (first [] (subst (λ ss. AreSolutionBranches r node follows ss []) (sym none) refl))
 
   pub nothing_made : (made : List Branch) → made ≡ [] → AreFirst all made
-  nothing_made made none rest others = subst (λ (xs : List Branch). AreBranchesOf r node follows all (xs ++ rest)) (sym none) others
+  nothing_made made none rest others = subst (λ (xs : List Branch). AreSolutionBranches r node follows all (xs ++ rest)) (sym none) others

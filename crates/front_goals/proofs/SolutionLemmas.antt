@@ -37,7 +37,7 @@ use Rattle.task_world.specs.FrontSteps.{LeavesBehind}
 use Rattle.task_world.proofs.BranchLemmas.{got_or, rest_on}
 use Rattle.task_world.proofs.SpotLemmas.{at}
 use Rattle.front_goals.specs.RepliesNext.{IsBoundThere, SolutionsAreNext, SolutionsLeave, follows_next}
-use Rattle.front_goals.specs.SolutionBranches.{AreBranchesOf, HasBranches}
+use Rattle.front_goals.specs.SolutionBranches.{AreSolutionBranches, HasBranches}
 use Rattle.front_goals.proofs.NextLemmas.{front, front_is, more_is, plain_on}
 use Rattle.front_goals.proofs.SolutionReadingLemmas.{after_goal, made, node_reads}
 
@@ -52,12 +52,12 @@ module _ (r : RegionView) (node : ℕ) (follows : List BranchItem) (h : ℕ) (f 
   passed : (s : SolutionView) (ss : List SolutionView) → unifier (solution_here r s).equations ≡ None → entries (s ∷ ss) ≡ entries ss
   passed s ss none = ap (λ o. unified o (follows_on s) ++ entries ss) none
 
-  pub none_left : (ss : List SolutionView) (bs : List Branch) → bs ≡ [] → AreBranchesOf r node follows ss bs → entries ss ≡ []
+  pub none_left : (ss : List SolutionView) (bs : List Branch) → bs ≡ [] → AreSolutionBranches r node follows ss bs → entries ss ≡ []
   none_left [] bs empty are = refl
   none_left (s ∷ ss) bs empty (inl k) = passed s ss k.0 ∙ none_left ss bs empty k.1
   none_left (s ∷ ss) bs empty (inr k) = let wrong : ◌≡◌ {A = List Branch} [] (k.branch ∷ k.others) = sym empty ∙ k.are in absurd cc
 
-  pub some_left : (ss : List SolutionView) (b : Branch) (bs : List Branch) → AreBranchesOf r node follows ss (b ∷ bs) → (e : Entry) × ((es : List Entry) × (entries ss ≡ e ∷ es))
+  pub some_left : (ss : List SolutionView) (b : Branch) (bs : List Branch) → AreSolutionBranches r node follows ss (b ∷ bs) → (e : Entry) × ((es : List Entry) × (entries ss ≡ e ∷ es))
   some_left [] b bs are = absurd (cc are)
   some_left (s ∷ ss) b bs (inl k) = let l = some_left ss b bs k.1 in (l.0, (l.1.0, passed s ss k.0 ∙ l.1.1))
   some_left (s ∷ ss) b bs (inr k) =
@@ -100,7 +100,7 @@ pub record SolutionLaws : Type 0 where
 module _ (laws : SolutionLaws) (job : Job) (nodes : NodesView) (t : TreeState) (w : ℕ) (a : Place) (placed : IsTableOf nodes (reading job) t.root) (legal : IsLegalTree t)
     (r : RegionView) (solutions : List SolutionView) (here : AreSolutionsHere r solutions) (next : SolutionsAreNext r solutions w a t)
     (bound : IsBoundThere nodes r.store.floor w a t) (rest : Body) (left : LeavesBehind nodes.rows a rest) (first : Branch) (first_is : slice_get rest.branches 0 ≡ Some first)
-    (bs : List Branch) (are : AreBranchesOf r a.node first.goals solutions bs) where
+    (bs : List Branch) (are : AreSolutionBranches r a.node first.goals solutions bs) where
   -- where there is no branch, nothing is left
   pub nothing_left : bs ≡ [] → AtFront w a (λ s front. front ≡ Continues []) t
   nothing_left empty s taken =
@@ -155,10 +155,10 @@ module _ (laws : SolutionLaws) (job : Job) (nodes : NodesView) (t : TreeState) (
     own_node : a.node ≡ node_of levels (length levels)
     own_node = sym (ap (λ (p : Place). p.node) at_place) ∙ sym (own_height s.level s.above)
 
-    there : AreBranchesOf r (node_of levels (length levels)) (items_behind (items_on way)) solutions bs
+    there : AreSolutionBranches r (node_of levels (length levels)) (items_behind (items_on way)) solutions bs
     there =
-        subst (λ n. AreBranchesOf r n (items_behind (items_on way)) solutions bs) own_node
-        (subst (λ (is : List BranchItem). AreBranchesOf r a.node is solutions bs) goals_are are)
+        subst (λ n. AreSolutionBranches r n (items_behind (items_on way)) solutions bs) own_node
+        (subst (λ (is : List BranchItem). AreSolutionBranches r a.node is solutions bs) goals_are are)
 
     abbrev all : List Entry
     all = solution_entries (length levels) after (map (solution_here r) solutions)
@@ -181,7 +181,7 @@ module _ (laws : SolutionLaws) (job : Job) (nodes : NodesView) (t : TreeState) (
       reads_left some =
           let f = first_of bs some in
           let l = some_left r (node_of levels (length levels)) (items_behind (items_on way)) (length levels) after solutions f.0 f.1.0
-          (subst (AreBranchesOf r (node_of levels (length levels)) (items_behind (items_on way)) solutions) f.1.1 there) in
+          (subst (AreSolutionBranches r (node_of levels (length levels)) (items_behind (items_on way)) solutions) f.1.1 there) in
           record {
             entry = l.0;
             under = l.1.0;

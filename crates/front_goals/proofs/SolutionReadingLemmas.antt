@@ -39,7 +39,7 @@ use Rattle.region_split.specs.SolutionTrials.{AreSolutionsHere}
 use Rattle.region_split.specs.StackOperations.{IsSolutionHere, solution_here}
 use Rattle.region_split.proofs.TrialLemmas.{resolved_twice, items_twice, named_twice}
 use Rattle.task_closing.proofs.QuietLemmas.{BranchLaws}
-use Rattle.front_goals.specs.SolutionBranches.{AreBranchesOf, IsBranchOf, clause_removal}
+use Rattle.front_goals.specs.SolutionBranches.{AreSolutionBranches, IsSolutionBranch, clause_removal}
 
 -- what is left behind a settled branch's first goal is settled
 left_settled : (next : ℕ) (items : List BranchItem) → list_all (is_item_settled next) items ≡ true → list_all (is_item_settled next) (items_behind items) ≡ true
@@ -146,7 +146,7 @@ module _ (laws : BranchLaws) (job : Job) (way : Branching) (levels : List Level)
     abbrev pub made : Body
     made = record { segment = quiet_segment r.store.now.next; branches = bs; kind = ChoiceBody }
 
-    module _ (s : SolutionView) (here : IsSolutionHere r s) (b : Branch) (is : IsBranchOf r own follows s b) (i : ℕ) (there : slice_get bs i ≡ Some b) where
+    module _ (s : SolutionView) (here : IsSolutionHere r s) (b : Branch) (is : IsSolutionBranch r own follows s b) (i : ℕ) (there : slice_get bs i ≡ Some b) where
       abbrev after : Substitution
       after = is.solves.after
 
@@ -222,7 +222,7 @@ module _ (laws : BranchLaws) (job : Job) (way : Branching) (levels : List Level)
     entries ss = solution_entries (length levels) after_goal (map (solution_here r) ss)
 
     -- all of them, one after another
-    pub all_read : (ss : List SolutionView) → AreSolutionsHere r ss → (pre suf : List Branch) (i : ℕ) → bs ≡ pre ++ suf → i ≡ length pre → AreBranchesOf r own follows ss suf
+    pub all_read : (ss : List SolutionView) → AreSolutionsHere r ss → (pre suf : List Branch) (i : ℕ) → bs ≡ pre ++ suf → i ≡ length pre → AreSolutionBranches r own follows ss suf
         → new_alternatives (reading job) way made i suf ≡ entry_alternatives Ready (map (with_nodes (node_of levels)) (entries ss))
     all_read [] here pre suf i parts at are = ap (new_alternatives (reading job) way made i) are
     all_read (s ∷ ss) here pre suf i parts at (inl h) =
@@ -240,6 +240,6 @@ module _ (laws : BranchLaws) (job : Job) (way : Branching) (levels : List Level)
         ∙ ap (λ o. entry_alternatives Ready (map (with_nodes (node_of levels))
         (unified o (with_next (next + s.variables) (before (goals_at (length levels) (solution_here r s).goals) (removing s.removes after_goal))) ++ entries ss))) (sym h.own.solves.unified)
 
-    pub node_reads : (ss : List SolutionView) → AreSolutionsHere r ss → AreBranchesOf r own follows ss bs → (n : ℕ)
+    pub node_reads : (ss : List SolutionView) → AreSolutionsHere r ss → AreSolutionBranches r own follows ss bs → (n : ℕ)
         → new_node (reading job) way n made ≡ Numbered n ChoiceNode (entry_alternatives Ready (map (with_nodes (node_of levels)) (entries ss)))
     node_reads ss here are n = ap (Numbered n ChoiceNode) (all_read ss here [] bs 0 refl refl are)

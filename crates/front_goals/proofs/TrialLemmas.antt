@@ -24,7 +24,7 @@ use Rattle.region_split.specs.declared.frame.Position.{Position}
 use Rattle.region_split.specs.declared.solution.EquationSide.{EquationSide}
 use Rattle.region_split.specs.declared.solution.EquationSide.TheVariants.{Value, Copied}
 use Rattle.region_split.proofs.SolvedLemmas.{stays_twice}
-use Rattle.front_goals.specs.SolvedSolutions.{KeepsMarked, IsTakenBack, SolvesBy, WritesSolvedOr}
+use Rattle.front_goals.specs.SolvedSolutions.{KeepsMarked, IsRegionTakenBack, SolvesBy, WritesSolvedOr}
 
 -- what was there at marks is there still
 all_same : (st : StoreView) (ms : List Moment) → Each (λ m. Keeps (text_at st m) (text_at st m)) ms
@@ -110,7 +110,7 @@ module _ (r r1 r2 : RegionView) (s : SolutionView) (position : Position) (adds :
     text_back : text_in r4.store ≡ text_at r3.store r.store.now
     text_back = ap text_in takes.store ∙ ap (text_at r3.store) back.now
 
-    pub taken_back : IsTakenBack r r4 position
+    pub taken_back : IsRegionTakenBack r r4 position
     taken_back = record {
       now = back.now;
       floor = ap (λ (st : StoreView). st.floor) takes.store ∙ (all_stays.floor ∙ ap (λ (st : StoreView). st.floor) first_store);

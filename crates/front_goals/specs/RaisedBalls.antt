@@ -1,4 +1,4 @@
--- A ball that the world raises at the front.
+-- A ball that the world raises at the front (ISO/IEC 13211-1, 7.8.9 and 7.8.10).
 use Rattle.std.specs.Prelude.{◌≡◌, ℕ, List, ◌∷◌, Some}
 use Rattle.au_term.specs.Term.{Term}
 use Rattle.run_model.specs.Machine.Balls.{unwound}

@@ -1,4 +1,5 @@
--- What the world replies to the goal that is next of an alternative.
+-- What the world replies to the goal that is next of an alternative: that it holds, fails, raises an error or ends the run, or the
+-- solutions that it has (ISO/IEC 13211-1, 7.7.7 and 8.8, 8.9, 8.12, 8.14, 8.17).
 use Rattle.std.specs.Prelude.{◌≡◌, ℕ, List, ◌∷◌, length, map, Some}
 use Rattle.au_term.specs.Term.{Term}
 use Rattle.cell_store.specs.StoreView.{Moment}

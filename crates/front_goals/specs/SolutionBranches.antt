@@ -1,4 +1,5 @@
--- Solutions as branches of a node.
+-- Solutions as branches of a node: the clauses that clause/2 and retract/1 may give (ISO/IEC 13211-1, 8.8.1 and 8.9.3), and the
+-- operators that current_op/3 may (8.14.4).
 use Rattle.std.specs.Prelude.{◌≡◌, ◌⊎◌, ℕ, List, [], ◌∷◌, ◌++◌, Option, Some, None}
 use Rattle.au_model.specs.Terms.Unifier.{unifier}
 use Rattle.clause_compile.specs.CompiledClauses.{goal_items}
@@ -23,14 +24,14 @@ abbrev pub solution_items : ℕ → SolutionView → List Item → List Item
 solution_items node solution follows = goal_items (Node node) solution.goals ++ (clause_removal solution.removes ++ follows)
 
 -- a branch has what a solution leaves, with a segment that leads to it
-pub record IsBranchOf (r : RegionView) (node : ℕ) (follows : List Item) (solution : SolutionView) (branch : Branch) : Type 0 where
+pub record IsSolutionBranch (r : RegionView) (node : ℕ) (follows : List Item) (solution : SolutionView) (branch : Branch) : Type 0 where
   pub solves : SolvesBy r solution branch.segment
   pub goals : branch.goals ≡ solution_items node solution follows
 
 -- where its equations unify
-abbrev pub IsBranchOr : RegionView → ℕ → List Item → SolutionView → Option Branch → Type 0
-IsBranchOr r node follows solution None = unifier (solution_here r solution).equations ≡ None
-IsBranchOr r node follows solution (Some branch) = IsBranchOf r node follows solution branch
+abbrev pub IsSolutionBranchOr : RegionView → ℕ → List Item → SolutionView → Option Branch → Type 0
+IsSolutionBranchOr r node follows solution None = unifier (solution_here r solution).equations ≡ None
+IsSolutionBranchOr r node follows solution (Some branch) = IsSolutionBranch r node follows solution branch
 
 -- a branch comes first, before others
 pub record BeginsWith (Own : Branch → Type 0) (Others : List Branch → Type 0) (branches : List Branch) : Type 0 where
@@ -41,11 +42,11 @@ pub record BeginsWith (Own : Branch → Type 0) (Others : List Branch → Type 0
   pub rest : Others others
 
 -- branches for solutions, in their order: one for each whose equations unify
-abbrev pub AreBranchesOf : RegionView → ℕ → List Item → List SolutionView → List Branch → Type 0
-AreBranchesOf r node follows [] branches = branches ≡ []
-AreBranchesOf r node follows (s ∷ solutions) branches =
-    ((unifier (solution_here r s).equations ≡ None) × AreBranchesOf r node follows solutions branches)
-    ⊎ BeginsWith (IsBranchOf r node follows s) (AreBranchesOf r node follows solutions) branches
+abbrev pub AreSolutionBranches : RegionView → ℕ → List Item → List SolutionView → List Branch → Type 0
+AreSolutionBranches r node follows [] branches = branches ≡ []
+AreSolutionBranches r node follows (s ∷ solutions) branches =
+    ((unifier (solution_here r s).equations ≡ None) × AreSolutionBranches r node follows solutions branches)
+    ⊎ BeginsWith (IsSolutionBranch r node follows s) (AreSolutionBranches r node follows solutions) branches
 
 -- a body has these branches, and does nothing else
 pub record HasBranches (next : ℕ) (branches : List Branch) (body : Body) : Type 0 where

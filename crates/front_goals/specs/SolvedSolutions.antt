@@ -27,7 +27,7 @@ WritesSolvedOr old new es None = unifier es ≡ None
 WritesSolvedOr old new es (Some bindings) = AreAllSolved old new es × AreWrittenOverFloor new.store bindings
 
 -- a region that could go on at a position is as it was, but for names that its text may have got
-pub record IsTakenBack (old new : RegionView) (position : Position) : Type 0 where
+pub record IsRegionTakenBack (old new : RegionView) (position : Position) : Type 0 where
   pub now : new.store.now ≡ old.store.now
   pub floor : new.store.floor ≡ old.store.floor
   pub keeps : Keeps (text_in old.store) (text_in new.store)

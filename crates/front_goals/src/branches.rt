@@ -3,8 +3,8 @@ ghost use Rattle.std.specs.Prelude.{◌≡◌, ◌++◌, IfOk, OnOk, option_to_l
 ghost use Rattle.region_split.specs.Regions.{IsPositionIn};
 ghost use Rattle.region_split.specs.SolutionTrials.{AreSolutionsHere};
 ghost use Rattle.region_split.specs.StackOperations.{IsSolutionHere};
-ghost use Rattle.front_goals.specs.SolutionBranches.{AreBranchesOf, IsBranchOr};
-ghost use Rattle.front_goals.specs.SolvedSolutions.{IsTakenBack};
+ghost use Rattle.front_goals.specs.SolutionBranches.{AreSolutionBranches, IsSolutionBranchOr};
+ghost use Rattle.front_goals.specs.SolvedSolutions.{IsRegionTakenBack};
 
 use crate::goals::solution_goals;
 use crate::trial::solved_segment;
@@ -25,7 +25,7 @@ pub(crate) fn solution_branches(
 ) -> Result<Vec<Branch>, NoMemory>
     requires there { AreSolutionsHere region.old solutions }
     requires position { IsPositionIn region.old position }
-    ensures { IfOk result (λ branches. AreBranchesOf region.old node follows.now solutions branches.items) }
+    ensures { IfOk result (λ branches. AreSolutionBranches region.old node follows.now solutions branches.items) }
 {
     let mut branches = Vec::new(alloc);
     let mut left = solutions;
@@ -47,8 +47,8 @@ fn solution_branch(
 ) -> Result<Option<Branch>, NoMemory>
     requires there { IsSolutionHere region.old solution.now }
     requires position { IsPositionIn region.old position }
-    ensures is { IfOk result (IsBranchOr region.old node follows.now solution.now) }
-    ensures back { IfOk result (λ _. IsTakenBack region.old region.new position) }
+    ensures is { IfOk result (IsSolutionBranchOr region.old node follows.now solution.now) }
+    ensures back { IfOk result (λ _. IsRegionTakenBack region.old region.new position) }
 {
     let Some(segment) = solved_segment(region, alloc, solution, position)? else {
         return Ok(None);

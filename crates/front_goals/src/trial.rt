@@ -2,7 +2,7 @@
 ghost use Rattle.std.specs.Prelude.{◌≡◌, IfOk};
 ghost use Rattle.region_split.specs.Regions.{IsPositionIn};
 ghost use Rattle.region_split.specs.StackOperations.{IsSolutionHere};
-ghost use Rattle.front_goals.specs.SolvedSolutions.{IsTakenBack, SolvesOr};
+ghost use Rattle.front_goals.specs.SolvedSolutions.{IsRegionTakenBack, SolvesOr};
 
 use crate::solving::bindings_of;
 use au_term::{NoMemory, Segment};
@@ -20,7 +20,7 @@ pub(crate) fn solved_segment(
     requires there { IsSolutionHere region.old solution.now }
     requires position { IsPositionIn region.old position }
     ensures solves { IfOk result (SolvesOr region.old solution.now) }
-    ensures back { IfOk result (λ _. IsTakenBack region.old region.new position) }
+    ensures back { IfOk result (λ _. IsRegionTakenBack region.old region.new position) }
 {
     region.ends_are_oldest();
     region.push_choice(Alternatives::Elsewhere, position)?;

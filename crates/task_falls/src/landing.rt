@@ -37,6 +37,7 @@ pub(crate) fn land_thrown<J: JobBrand>(
     ensures whole { IfOk result (λ l. IsWhole (body_view (arc_value l.body))) }
     ensures lands { IfOk result (λ l. LandsAs tree.now.nodes.rows (scope_number l.scope) (body_view (arc_value l.body)) worker (place_view at) (reading tree.now.history.job) (state_of tree.now.history)) }
 {
+    // The contract speaks of the worker that has the alternative; nothing is asked of its number.
     let _worker = worker;
     numbered_trees_are_settled();
     floor_items_stay();
