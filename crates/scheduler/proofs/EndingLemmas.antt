@@ -1,5 +1,5 @@
 -- A run that ends on its tree.
-use Rattle.std.proofs.Common.{◌≡◌, ◌≢◌, ◌⊎◌, inl, inr, ℕ, ◌≤◌, List, [], ◌∷◌, Option, Some, None, length, take, drop, refl, sym, ap, ◌∙◌, subst, append-nil}
+use Rattle.std.proofs.Common.{◌≡◌, ◌≢◌, inl, inr, ℕ, ◌≤◌, List, [], ◌∷◌, Option, Some, None, length, drop, refl, sym, ap, ◌∙◌, subst, append-nil}
 use Rattle.au_io.specs.FaultCounts.{Appended, AppendedPrefix}
 use Rattle.run_model.specs.declared.ending.RunEnding.{RunEnding}
 use Rattle.run_model.specs.declared.ending.RunEnding.TheVariants.{Finished, Halted, Budget, WriteFault, NoMemory}
@@ -8,7 +8,7 @@ use Rattle.run_model.specs.Laws.RunLaws.{IsPrefixOf}
 use Rattle.run_model.specs.Machine.Entries.{Entry}
 use Rattle.run_model.specs.Machine.Runs.{seq, text_of, ending_by, ending_of}
 use Rattle.run_model.specs.Programs.Jobs.{Job}
-use Rattle.stack_run.specs.RunEnds.{IsRun, IsRunBy, IsWholeRun, IsCutShort}
+use Rattle.stack_run.specs.RunEnds.{IsRun, IsRunBy, IsWholeRun}
 use Rattle.tree_core.specs.Histories.{History, state_of}
 use Rattle.tree_core.specs.KeptPromises.{KeepsPromises}
 use Rattle.scheduler.specs.Endings.{IsEndOf, ClosesFrom, cut_short_by}

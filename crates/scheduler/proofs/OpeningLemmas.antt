@@ -1,15 +1,14 @@
 -- What a job is run with, before the first event of its tree.
-use Rattle.std.proofs.Common.{◌≡◌, ◌≤◌, ◌||◌, ℕ, zero, suc, List, [], ◌∷◌, length, drop, min, refl, sym, ap, ◌∙◌, subst, arith}
+use Rattle.std.proofs.Common.{◌≡◌, ◌≤◌, ◌||◌, ℕ, List, [], ◌∷◌, length, drop, min, refl, sym, ap, ◌∙◌, subst, arith}
 use Rattle.std.proofs.Math.Path.{fun_ext}
 use Rattle.std.specs.Arc.{arc_value}
-use Rattle.run_model.specs.Goals.Worlds.{World, is_reserved, static_among}
-use Rattle.run_model.specs.Programs.Clauses.{is_defined}
+use Rattle.run_model.specs.Goals.Worlds.{is_reserved, static_among}
 use Rattle.run_model.specs.Programs.Jobs.{Query, Job}
 use Rattle.effect_gate.specs.Effects.{statics_of, world_meant}
 use Rattle.effect_gate.specs.declared.world.World.{World as KeptWorld}
 use Rattle.text_load.specs.JobView.{AreStatics}
 use Rattle.tree_model.specs.TreeStates.{queries_after}
-use Rattle.tree_core.specs.Histories.{History, state_of}
+use Rattle.tree_core.specs.Histories.{History}
 use Rattle.task_serving.specs.JobRuns.{IsJobRun}
 use Rattle.task_serving.specs.declared.job_run.JobRun.{JobRun}
 

@@ -1,5 +1,5 @@
 -- Turns keep what a driven tree has.
-use Rattle.std.proofs.Common.{◌≡◌, ◌≢◌, ◌||◌, Bool, true, false, cond, List, [], ◌∷◌, ◌++◌, Option, Some, None, refl, sym, ap, ◌∙◌, subst}
+use Rattle.std.proofs.Common.{◌≡◌, ◌≢◌, ◌||◌, Bool, true, false, cond, List, [], ◌∷◌, ◌++◌, Option, Some, None, refl, sym, ap, ◌∙◌}
 use Rattle.std.specs.List.{list_any}
 use Rattle.std.specs.Option.{option_map}
 use Rattle.tree_model.specs.Events.{Event, Claim, Nodes, Empty, Collected, Lost, Suspend, Resume, Prune, Answer, Stop}
@@ -7,10 +7,10 @@ use Rattle.tree_model.specs.Levels.{Place, Spot, place_of_spot}
 use Rattle.tree_model.specs.TreeStates.{TreeState, ended}
 use Rattle.public_tree.specs.PublicTrees.{is_going}
 use Rattle.tree_core.specs.HandOuts.{offered_at}
-use Rattle.tree_core.specs.Histories.{History, state_of, with_event}
+use Rattle.tree_core.specs.Histories.{History, state_of}
 use Rattle.tree_core.specs.TasksOut.{out_after}
 use Rattle.hand_out_laws.specs.HandedBack.{hands_out, gives_back, is_stop, OneGoesOut, OneComesBack, OnlyStopsStop}
-use Rattle.task_serving.specs.GivenBack.{GivesBack, leaves_world}
+use Rattle.task_serving.specs.GivenBack.{IsGivenBack, leaves_world}
 use Rattle.task_serving.specs.JobRuns.{EventsLeaveRuns, IsJobRun}
 use Rattle.task_serving.specs.declared.job_run.JobRun.{JobRun}
 use Rattle.scheduler.specs.Driving.{GoesOut, IsDriven}
@@ -73,7 +73,7 @@ pub over : (old new : History) (a : Place) → IsDriven old → GoesOut old new 
 over old new a d g ends = record { unstopped = out_unstopped old new a d g; back = λ goes. let no_way : ⊥ = cc in absurd no_way }
 
 -- and it comes back
-pub back_again : OneGoesOut → OneComesBack → (old out new : History) (a : Place) → IsDriven old → is_going (state_of old) ≡ true → GoesOut old out a → GivesBack out new a
+pub back_again : OneGoesOut → OneComesBack → (old out new : History) (a : Place) → IsDriven old → is_going (state_of old) ≡ true → GoesOut old out a → IsGivenBack out new a
     → IsDriven new
 back_again one back old out new a d going g b = record {
   unstopped = ap (λ (h : History). list_any is_stop h.events) b.noted ∙ no_stop_more out.events b.back (out_unstopped old out a d g) (back_no_stop a b.back b.gives);

@@ -13,7 +13,7 @@ use au_term::NoMemory;
 use hand_out_laws::laws::{all_is_back, out_and_back};
 use std::alloc::Global;
 use task_serving::laws::events_leave_runs;
-use task_serving::{JobRun, serve};
+use task_serving::{JobRun, NoDemand, serve};
 use tree_core::{JobBrand, Tree};
 use tree_model::AltRef;
 
@@ -41,7 +41,7 @@ pub(crate) fn turn<J: JobBrand>(
         return Ok(());
     }
     let limit = limit_of(tree, budget);
-    serve(tree, run, WORKER, at, limit, alloc)
+    serve(tree, run, WORKER, at, limit, &mut NoDemand, alloc)
 }
 
 /// Hands out the leftmost alternative that is ready, or else one that has waited and need no longer.

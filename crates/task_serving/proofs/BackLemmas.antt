@@ -7,7 +7,7 @@ use Rattle.public_tree.specs.PublicTrees.{is_going}
 use Rattle.public_tree.specs.declared.closing.TaskEnd.TheVariants.{Nothing, Result}
 use Rattle.public_tree.specs.declared.prune.Pruning.TheVariants as pruning
 use Rattle.task_publishing.specs.TaskRuns.{Publishes}
-use Rattle.task_serving.specs.GivenBack.{GivesBackAlone}
+use Rattle.task_serving.specs.GivenBack.{IsGivenBackAlone}
 use Rattle.tree_core.specs.Histories.{History, state_of, while_going, with_event}
 use Rattle.tree_core.specs.Turns.{pruning_of, where_legal}
 use Rattle.tree_model.specs.Events.{Event, Nodes, Prune, Suspend}
@@ -23,16 +23,16 @@ pub noted_going : (h new : History) (e : Event) → is_going (state_of h) ≡ tr
 noted_going h new e going noted = noted ∙ ap (λ (b : Bool). cond b (with_event e h) h) going
 
 module _ (h new : History) (w : ℕ) (a : Place) (going : is_going (state_of h) ≡ true) where
-  pub waits : new ≡ while_going (Suspend w a false) h → GivesBackAlone h new a
+  pub waits : new ≡ while_going (Suspend w a false) h → IsGivenBackAlone h new a
   waits noted = record { back = Suspend w a false; noted = noted_going h new (Suspend w a false) going noted; gives = place_self a; alone = refl }
 
-  pub publishes : (k : ℕ) → Publishes h new w a k → GivesBackAlone h new a
+  pub publishes : (k : ℕ) → Publishes h new w a k → IsGivenBackAlone h new a
   publishes k p = record { back = Nodes w a k p.sizes; noted = noted_going h new (Nodes w a k p.sizes) going p.noted; gives = place_self a; alone = refl }
 
-  pub closes : (k : ℕ) → new ≡ while_going (closing_event Nothing w a k) h → GivesBackAlone h new a
+  pub closes : (k : ℕ) → new ≡ while_going (closing_event Nothing w a k) h → IsGivenBackAlone h new a
   closes k noted = record { back = closing_event Nothing w a k; noted = noted_going h new (closing_event Nothing w a k) going noted; gives = place_self a; alone = refl }
 
-  pub collects : (k : ℕ) → new ≡ while_going (closing_event Result w a k) h → GivesBackAlone h new a
+  pub collects : (k : ℕ) → new ≡ while_going (closing_event Result w a k) h → IsGivenBackAlone h new a
   collects k noted = record { back = closing_event Result w a k; noted = noted_going h new (closing_event Result w a k) going noted; gives = place_self a; alone = refl }
 
   -- a cut or a ball was taken
@@ -46,7 +46,7 @@ module _ (h new : History) (w : ℕ) (a : Place) (going : is_going (state_of h) 
       let t = state_of h in
       and_apart (not t.stopped) (is_none (ended t)) (is_allowed t e) ∙ ap (λ (b : Bool). b && is_allowed t e) going ∙ allowed
 
-  pub prunes : pruning.Taken ≡ pruning_of (Prune w a) (state_of h) → new ≡ where_legal (Prune w a) h → GivesBackAlone h new a
+  pub prunes : pruning.Taken ≡ pruning_of (Prune w a) (state_of h) → new ≡ where_legal (Prune w a) h → IsGivenBackAlone h new a
   prunes taken noted =
       let e = Prune w a in
       let here : pruning.Taken ≡ cond (is_allowed (state_of h) e) pruning.Taken pruning.NotCleared

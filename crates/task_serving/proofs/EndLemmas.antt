@@ -10,7 +10,7 @@ use Rattle.public_tree.specs.declared.answering.Answering.TheVariants as answeri
 use Rattle.run_model.specs.Machine.Entries.{Entry, EndEntry}
 use Rattle.run_model.specs.Programs.Jobs.{Query}
 use Rattle.task_serving.specs.JobRuns.{IsJobRun}
-use Rattle.task_serving.specs.QueriesLeft.{CountsOpened, left_after}
+use Rattle.task_serving.specs.QueriesLeft.{CountsOpened, queries_left_after}
 use Rattle.task_serving.specs.declared.job_run.JobRun.{JobRun}
 use Rattle.task_serving.proofs.EventLemmas.{noted_same, state_after}
 use Rattle.task_serving.proofs.FrontLemmas.{HasComeTo, IsTakenThere, come_job, come_world}
@@ -54,7 +54,7 @@ module _ (old new : History) (w : ℕ) (a : Place) (ball : Option Term) (ends : 
       ∙ ap (λ (t : TreeState). t.queries) (state_after old (front_event w a))
       ∙ after_end (state_of old) w a ball ends s.0 s.1
 
-  end_queries : (step : FrontStep) → HasComeTo old new w a step → (state_of new).queries ≡ left_after step (state_of old).queries
+  end_queries : (step : FrontStep) → HasComeTo old new w a step → (state_of new).queries ≡ queries_left_after step (state_of old).queries
   end_queries (Done answering.Taken) h = taken_queries h
   end_queries (Done answering.NotLeftmost) h = (noted_same old new (Suspend w a false) refl h.noted).queries
   end_queries (Done answering.HasEnded) h = absurd h
@@ -68,7 +68,7 @@ module _ (old new : History) (w : ℕ) (a : Place) (ball : Option Term) (ends : 
       let long : length run.queries.items ≡ length old.job.queries = ap length k.queries in
       run_moved old new run world asked k (come_job old new w a step h) statics (come_world old new w a (world_meant world) is step h)
       (let within = counts.within in omega (arith, long, within))
-      (end_queries step h ∙ ap (left_after step) k.left ∙ sym (counts.left old.job.queries (sym long)))
+      (end_queries step h ∙ ap (queries_left_after step) k.left ∙ sym (counts.left old.job.queries (sym long)))
 
 -- one more was opened, if one was left
 one_less : (asked : ℕ) (queries : List Query) → asked < length queries → drop (suc asked) queries ≡ queries_after (drop asked queries)

@@ -7,7 +7,7 @@ use Rattle.task_gates.specs.StopGates.{IsGateOfStop, StopsAreGates}
 use Rattle.task_region.specs.declared.running.TaskStop.{TaskStop}
 use Rattle.task_region.specs.declared.running.TaskStop.TheVariants.{World, Removal, Answer}
 use Rattle.task_serving.specs.FrontTurns.{IsTaskAtWorld}
-use Rattle.task_serving.specs.StoppedTasks.{HasStopped}
+use Rattle.task_serving.specs.StoppedTasks.{HasStoppedOut}
 use Rattle.task_serving.specs.declared.running.StoppedTask.{StoppedTask}
 use Rattle.task_serving.proofs.FrontLemmas.{answer_at_world, goal_at_world, removal_at_world}
 use Rattle.task_world.specs.FrontsTold.{StopsAtFront}
@@ -15,7 +15,7 @@ use Rattle.tree_core.specs.Histories.{TreeView, NodesStand, state_of}
 use Rattle.tree_model.specs.LegalTrees.{IsLegalTree}
 use Rattle.tree_model.specs.Levels.{Place}
 
-module _ (v : TreeView) (w : ℕ) (a : Place) (s : StoppedTask) (stopped : HasStopped v a s) (none : s.taken ≡ 0) (stand : NodesStand v)
+module _ (v : TreeView) (w : ℕ) (a : Place) (s : StoppedTask) (stopped : HasStoppedOut v a s) (none : s.taken ≡ 0) (stand : NodesStand v)
     (lawful : IsLegalTree (state_of v.history)) (law : StopsAreGates) (stop : TaskStop) (is : s.stop ≡ stop) where
   pub stops_at_once : StopsThereFor v.nodes a v.history.job.clauses 0 s.task stop
   stops_at_once =
@@ -28,7 +28,7 @@ module _ (v : TreeView) (w : ℕ) (a : Place) (s : StoppedTask) (stopped : HasSt
   pub gate_there : IsGateOfStop stop w a (state_of v.history)
   gate_there = law v w a s.task stop stand lawful stops_at_once
 
-module _ (v : TreeView) (w : ℕ) (a : Place) (s : StoppedTask) (stopped : HasStopped v a s) (none : s.taken ≡ 0) (stand : NodesStand v)
+module _ (v : TreeView) (w : ℕ) (a : Place) (s : StoppedTask) (stopped : HasStoppedOut v a s) (none : s.taken ≡ 0) (stand : NodesStand v)
     (lawful : IsLegalTree (state_of v.history)) (law : StopsAreGates) where
   pub goal_there : (item : FrameItem) (g : GoalPlace) → s.stop ≡ World item g → IsTaskAtWorld w a (state_of v.history)
   goal_there item g is =

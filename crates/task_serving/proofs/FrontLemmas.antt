@@ -27,7 +27,7 @@ use Rattle.task_region.specs.TaskViews.{TaskView}
 use Rattle.task_region.specs.declared.running.TaskStop.{TaskStop}
 use Rattle.task_region.specs.declared.running.TaskStop.TheVariants.{World, Removal, Answer}
 use Rattle.task_serving.specs.FrontTurns.{EndsStep, FailsStep, IsOutStill, IsStepOpen, IsTaskAtWorld}
-use Rattle.task_serving.specs.GivenBack.{GivesBack}
+use Rattle.task_serving.specs.GivenBack.{IsGivenBack}
 use Rattle.task_serving.specs.JobRuns.{IsJobRun}
 use Rattle.task_serving.specs.declared.job_run.JobRun.{JobRun}
 use Rattle.task_serving.proofs.BackLemmas.{legal_where}
@@ -192,7 +192,7 @@ module _ (v0 v1 : TreeView) (w : ℕ) (a : Place) (out : IsOutStill v0 w a) (gat
     has_failed (Closes closing) c k = k ∙ ap (λ (x : TreeView). x.history) c.0
 
 -- by one event
-pub come_back : (old new : History) (w : ℕ) (a : Place) (step : FrontStep) → HasComeTo old new w a step → GivesBack old new a
+pub come_back : (old new : History) (w : ℕ) (a : Place) (step : FrontStep) → HasComeTo old new w a step → IsGivenBack old new a
 come_back old new w a (Done answering.Taken) h = record { back = front_event w a; noted = h.noted; gives = place_self a }
 come_back old new w a (Done answering.NotLeftmost) h = record { back = Suspend w a false; noted = h.noted; gives = place_self a }
 come_back old new w a (Done answering.HasEnded) h = absurd h

@@ -5,7 +5,7 @@ use Rattle.effect_gate.specs.Effects.{statics_of, world_meant}
 use Rattle.effect_gate.specs.declared.world.World.{World as KeptWorld}
 use Rattle.dyn_clauses.specs.DatabaseView.{is_static}
 use Rattle.run_model.specs.Goals.Worlds.{is_reserved, static_among}
-use Rattle.task_serving.specs.GivenBack.{GivesBack, GivesBackAlone, IsSameJob}
+use Rattle.task_serving.specs.GivenBack.{IsGivenBack, IsGivenBackAlone, IsSameJob}
 use Rattle.task_serving.specs.JobRuns.{EventsLeaveRuns, IsJobRun}
 use Rattle.task_serving.specs.declared.job_run.JobRun.{JobRun}
 use Rattle.task_serving.proofs.EventLemmas.{noted_same}
@@ -36,13 +36,13 @@ run_left old new e run alone noted k =
     let same = noted_same old new e alone noted in
     run_moved old new run run.world run.asked k (ap (λ (x : History). x.job) noted) refl (k.world ∙ sym same.world) k.asked (same.queries ∙ k.left)
 
-pub run_alone : (h new : History) (a : Place) (run : JobRun) → IsJobRun h run → GivesBackAlone h new a → IsJobRun new run
+pub run_alone : (h new : History) (a : Place) (run : JobRun) → IsJobRun h run → IsGivenBackAlone h new a → IsJobRun new run
 run_alone h new a run k back = run_left h new back.back run back.alone back.noted k
 
-pub gives_back : (h new : History) (a : Place) → GivesBackAlone h new a → GivesBack h new a
+pub gives_back : (h new : History) (a : Place) → IsGivenBackAlone h new a → IsGivenBack h new a
 gives_back h new a back = record { back = back.back; noted = back.noted; gives = back.gives }
 
-pub same_job : (h new : History) (a : Place) → GivesBack h new a → IsSameJob h new
+pub same_job : (h new : History) (a : Place) → IsGivenBack h new a → IsSameJob h new
 same_job h new a back = record {
   job = ap (λ (x : History). x.job) back.noted;
   budget = ap (λ (x : History). x.budget) back.noted;
@@ -57,6 +57,6 @@ unchanged_job h new e = record {
 }
 
 -- whether it succeeds or not
-pub same_anyway : {T E : Type 0} (r : Result T E) (h new : History) (a : Place) → OnOk r (GivesBack h new a) → OnErr r (new ≡ h) → IsSameJob h new
+pub same_anyway : {T E : Type 0} (r : Result T E) (h new : History) (a : Place) → OnOk r (IsGivenBack h new a) → OnErr r (new ≡ h) → IsSameJob h new
 same_anyway (Ok u) h new a back err = same_job h new a back
 same_anyway (Err e) h new a back err = unchanged_job h new err

@@ -5,7 +5,7 @@ use Rattle.tree_core.specs.Histories.{History, with_event}
 use Rattle.tree_model.specs.Events.{Event, Claim, Nodes, Empty, Collected, Lost, Suspend, Resume, Prune, Answer, Stop}
 use Rattle.tree_model.specs.Levels.{Place}
 
-pub record GivesBack (old new : History) (a : Place) : Type 0 where
+pub record IsGivenBack (old new : History) (a : Place) : Type 0 where
   pub back : Event
   pub noted : new ≡ with_event back old
   pub gives : gives_back a back ≡ true
@@ -24,7 +24,7 @@ leaves_world (Answer w a frozen) = false
 leaves_world (Stop w) = true
 
 -- by one of these
-pub record GivesBackAlone (old new : History) (a : Place) : Type 0 where
+pub record IsGivenBackAlone (old new : History) (a : Place) : Type 0 where
   pub back : Event
   pub noted : new ≡ with_event back old
   pub gives : gives_back a back ≡ true

@@ -7,13 +7,13 @@ use Rattle.task_world.specs.declared.step.FrontStep.TheVariants.{Done, Closes}
 use Rattle.tree_model.specs.TreeStates.{queries_after}
 
 -- where the end was taken, one less is left, if any was
-abbrev pub left_after : FrontStep → List Query → List Query
-left_after (Done Taken) queries = queries_after queries
-left_after (Done NotLeftmost) queries = queries
-left_after (Done HasEnded) queries = queries
-left_after (Closes closing) queries = queries_after queries
+abbrev pub queries_left_after : FrontStep → List Query → List Query
+queries_left_after (Done Taken) queries = queries_after queries
+queries_left_after (Done NotLeftmost) queries = queries
+queries_left_after (Done HasEnded) queries = queries
+queries_left_after (Closes closing) queries = queries_after queries
 
 -- of so many queries, as many as before or one more were opened
 pub record CountsOpened (count asked : ℕ) (step : FrontStep) (now : ℕ) : Type 0 where
   pub within : now ≤ count
-  pub left : (queries : List Query) → length queries ≡ count → drop now queries ≡ left_after step (drop asked queries)
+  pub left : (queries : List Query) → length queries ≡ count → drop now queries ≡ queries_left_after step (drop asked queries)

@@ -7,7 +7,7 @@ ghost use Rattle.tree_model.specs.Legality.{taken_at};
 ghost use Rattle.public_tree.specs.PublicTrees.{is_going};
 ghost use Rattle.tree_core.specs.Histories.{state_of};
 ghost use Rattle.worker_tasks.specs.OutTasks.{EndsQueryAt};
-ghost use Rattle.task_serving.specs.GivenBack.{GivesBack};
+ghost use Rattle.task_serving.specs.GivenBack.{IsGivenBack};
 ghost use Rattle.task_serving.specs.JobRuns.{IsJobRun};
 ghost use Rattle.task_serving.specs.QueriesLeft.{CountsOpened};
 
@@ -36,7 +36,7 @@ pub(crate) fn serve_end<J: JobBrand>(
     requires run { IsJobRun tree.old.history run.old }
     requires ends { EndsQueryAt worker (place_view at) ball (state_of tree.old.history) }
     ensures run { OnOk result (IsJobRun tree.new.history run.new) }
-    ensures back { OnOk result (GivesBack tree.old.history tree.new.history (place_view at)) }
+    ensures back { OnOk result (IsGivenBack tree.old.history tree.new.history (place_view at)) }
     ensures err { OnErr result (tree.new.history ≡ tree.old.history) }
 {
     let count = run.queries.len();

@@ -7,7 +7,7 @@ ghost use Rattle.tree_core.specs.Histories.{state_of};
 ghost use Rattle.task_region.specs.declared.running.TaskStop.TheVariants.{Cut};
 ghost use Rattle.task_falls.specs.ThrownBalls.{ThrowsThere};
 ghost use Rattle.task_gates.specs.StopGates.{IsGateOfStop};
-ghost use Rattle.task_serving.specs.GivenBack.{GivesBackAlone};
+ghost use Rattle.task_serving.specs.GivenBack.{IsGivenBackAlone};
 
 use au_term::{FlatTerm, NoMemory};
 use public_tree::Pruning;
@@ -33,7 +33,7 @@ pub(crate) fn cut_or_wait<J: JobBrand>(
     requires out { is_some (taken_at worker (place_view at) (state_of tree.old.history)) ≡ true }
     requires going { is_going (state_of tree.old.history) ≡ true }
     requires gate { IsGateOfStop (Cut height) worker (place_view at) (state_of tree.old.history) }
-    ensures back { OnOk result (GivesBackAlone tree.old.history tree.new.history (place_view at)) }
+    ensures back { OnOk result (IsGivenBackAlone tree.old.history tree.new.history (place_view at)) }
     ensures err { OnErr result (tree.new.history ≡ tree.old.history) }
 {
     stops_are_gates();
@@ -61,7 +61,7 @@ pub(crate) fn fall_or_wait<J: JobBrand>(
     requires out { is_some (taken_at worker (place_view at) (state_of tree.old.history)) ≡ true }
     requires going { is_going (state_of tree.old.history) ≡ true }
     requires throws { ThrowsThere worker (place_view at) ball.now (state_of tree.old.history) }
-    ensures back { OnOk result (GivesBackAlone tree.old.history tree.new.history (place_view at)) }
+    ensures back { OnOk result (IsGivenBackAlone tree.old.history tree.new.history (place_view at)) }
     ensures err { OnErr result (tree.new.history ≡ tree.old.history) }
 {
     let pruning = fall_task(tree, worker, at, alloc, ball, text)?;

@@ -5,9 +5,9 @@ ghost use Rattle.tree_model.specs.Legality.{taken_at};
 ghost use Rattle.public_tree.specs.PublicTrees.{is_going};
 ghost use Rattle.tree_core.specs.Histories.{state_of};
 ghost use Rattle.task_region.specs.TaskStops.{IsLimit};
-ghost use Rattle.task_serving.specs.GivenBack.{GivesBack};
+ghost use Rattle.task_serving.specs.GivenBack.{IsGivenBack};
 ghost use Rattle.task_serving.specs.JobRuns.{IsJobRun};
-ghost use Rattle.task_serving.specs.StoppedTasks.{HasStopped};
+ghost use Rattle.task_serving.specs.StoppedTasks.{HasStoppedOut};
 
 use crate::falling::{cut_or_wait, fall_or_wait};
 use crate::job_run::JobRun;
@@ -37,11 +37,11 @@ pub(crate) fn serve_first<J: JobBrand>(
     requires out { is_some (taken_at worker (place_view at) (state_of tree.old.history)) ≡ true }
     requires going { is_going (state_of tree.old.history) ≡ true }
     requires run { IsJobRun tree.old.history run.old }
-    requires stopped { HasStopped tree.old (place_view at) stopped }
+    requires stopped { HasStoppedOut tree.old (place_view at) stopped }
     requires none { stopped.taken ≡ 0 }
     requires unlimited { IsLimit stopped.stop → ⊥ }
     ensures run { OnOk result (IsJobRun tree.new.history run.new) }
-    ensures back { OnOk result (GivesBack tree.old.history tree.new.history (place_view at)) }
+    ensures back { OnOk result (IsGivenBack tree.old.history tree.new.history (place_view at)) }
     ensures err { OnErr result (tree.new.history ≡ tree.old.history) }
 {
     stops_are_gates();

@@ -6,8 +6,8 @@ ghost use Rattle.public_tree.specs.PublicTrees.{is_going};
 ghost use Rattle.tree_core.specs.Histories.{state_of};
 ghost use Rattle.task_region.specs.TaskStops.{IsBall};
 ghost use Rattle.task_region.specs.declared.running.TaskStop.TheVariants.{Collect};
-ghost use Rattle.task_serving.specs.GivenBack.{GivesBackAlone};
-ghost use Rattle.task_serving.specs.StoppedTasks.{HasStopped};
+ghost use Rattle.task_serving.specs.GivenBack.{IsGivenBackAlone};
+ghost use Rattle.task_serving.specs.StoppedTasks.{HasStoppedOut};
 
 use crate::running::StoppedTask;
 use au_term::NoMemory;
@@ -30,10 +30,10 @@ pub(crate) fn serve_later<J: JobBrand>(
 ) -> Result<(), NoMemory>
     requires out { is_some (taken_at worker (place_view at) (state_of tree.old.history)) ≡ true }
     requires going { is_going (state_of tree.old.history) ≡ true }
-    requires stopped { HasStopped tree.old (place_view at) stopped }
+    requires stopped { HasStoppedOut tree.old (place_view at) stopped }
     requires some { 1 ≤ stopped.taken }
     requires no_ball { IsBall stopped.stop → ⊥ }
-    ensures back { OnOk result (GivesBackAlone tree.old.history tree.new.history (place_view at)) }
+    ensures back { OnOk result (IsGivenBackAlone tree.old.history tree.new.history (place_view at)) }
     ensures err { OnErr result (tree.new.history ≡ tree.old.history) }
 {
     tasks_stop_for_causes();

@@ -2,6 +2,7 @@
 //! one event. So whatever is handed out comes back, to wait or for good, and the world stays that of the tree.
 #![tactic(auto)]
 
+mod demand;
 mod ending;
 mod falling;
 mod first;
@@ -15,5 +16,6 @@ mod serving;
 mod taking;
 mod world;
 
+pub use demand::{Demand, NoDemand};
 pub use job_run::JobRun;
 pub use serving::serve;

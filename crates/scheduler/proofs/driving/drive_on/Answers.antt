@@ -1,4 +1,4 @@
-use Rattle.std.proofs.Common.{◌≡◌, ◌≤◌, ℕ, List, length, drop, sym, ap, ◌∙◌, subst}
+use Rattle.std.proofs.Common.{◌≤◌, ℕ, List, length, drop, sym, ap, ◌∙◌, subst}
 use Rattle.au_io.specs.FaultCounts.{AppendedPrefix}
 use Rattle.run_model.specs.Goals.Worlds.{World}
 use Rattle.stack_run.specs.RunEnds.{IsRun}

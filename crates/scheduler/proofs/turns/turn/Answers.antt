@@ -1,4 +1,4 @@
-use Rattle.scheduler.proofs.TurnLemmas.{back_again, over, run_goes_out}
+use Rattle.scheduler.proofs.TurnLemmas.{back_again, run_goes_out}
 use Rattle.std.proofs.Common.{OnOk, Result, Ok, Err}
 use Rattle.scheduler.proofs.turns.turn.Goals as goal
 
