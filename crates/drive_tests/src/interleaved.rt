@@ -203,9 +203,10 @@ fn random_texts(rt: HostRuntime) -> Result<(), Fail> {
 #[test]
 fn programs(rt: HostRuntime) -> Result<(), Fail> {
     let mut seen = Seen::nothing();
+    // All but the first worker stop after 256 inferences, since others wait.
     let turns = Turns {
         workers: 3,
-        limit: 16,
+        limit: 100_000,
         backwards: true,
     };
     for (text, lines) in PROGRAMS {

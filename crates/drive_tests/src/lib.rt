@@ -11,4 +11,6 @@ mod interleaved;
 #[cfg(test)]
 mod random;
 #[cfg(test)]
+mod rows;
+#[cfg(test)]
 mod workers;

@@ -9,7 +9,7 @@ ghost use Rattle.task_serving.specs.JobRuns.{IsJobRun};
 use std::alloc::Global;
 use std::test::Fail;
 use task_serving::laws::events_leave_runs;
-use task_serving::{JobRun, serve};
+use task_serving::{Demand, JobRun, serve};
 use tree_core::{JobBrand, Tree};
 use tree_model::AltRef;
 
@@ -19,6 +19,16 @@ pub(crate) struct Turns {
     pub(crate) workers: u32,
     pub(crate) limit: u64,
     pub(crate) backwards: bool,
+}
+
+/// Whether somebody waits for something to do.
+#[derive(Drop)]
+struct Waiting(bool);
+
+impl Demand for Waiting {
+    fn somebody_waits(&mut self) -> bool {
+        self.0
+    }
 }
 
 /// What was seen of what workers do to one another.
@@ -83,8 +93,9 @@ fn take_one<J: JobBrand>(
     claimed(tree, run, worker)
 }
 
+/// What has waited and is handed out to a worker again.
 #[tactic(auto, using(crate::proofs::HandedLemmas::run_resumed))]
-fn resumed<J: JobBrand>(
+pub(crate) fn resumed<J: JobBrand>(
     tree: &mut Tree<J>,
     run: &JobRun,
     worker: u32,
@@ -97,8 +108,9 @@ fn resumed<J: JobBrand>(
     Ok(tree.resume(worker)?)
 }
 
+/// What is ready and is handed out to a worker.
 #[tactic(auto, using(crate::proofs::HandedLemmas::run_claimed))]
-fn claimed<J: JobBrand>(
+pub(crate) fn claimed<J: JobBrand>(
     tree: &mut Tree<J>,
     run: &JobRun,
     worker: u32,
@@ -123,8 +135,8 @@ fn give_up<J: JobBrand>(tree: &mut Tree<J>, run: &JobRun, worker: u32, at: AltRe
     tree.give_up(worker, at);
 }
 
-/// A worker serves what it has, or gives it up where that was pruned.
-fn serve_one<J: JobBrand>(
+/// A worker serves what it has, or gives it up where that was pruned. A second worker waits all the time.
+pub(crate) fn serve_one<J: JobBrand>(
     alloc: Global,
     tree: &mut Tree<J>,
     run: &mut JobRun,
@@ -141,7 +153,8 @@ fn serve_one<J: JobBrand>(
         seen.lost = seen.lost.saturating_add(1);
         give_up(tree, run, worker, at);
     } else if tree.is_going() && tree.is_out(worker, at) {
-        serve(tree, run, worker, at, limit, alloc)?;
+        let mut waiting = Waiting(0 < worker);
+        serve(tree, run, worker, at, limit, &mut waiting, alloc)?;
     }
     Ok(())
 }

@@ -65,34 +65,3 @@ pub fn code(ending: &Ending) -> u8
         Ending::TooLong => 70,
     }
 }
-
-#[cfg(test)]
-mod tests {
-    use super::*;
-
-    #[test]
-    fn codes_of_endings(rt: HostRuntime) {
-        for (ending, status) in [
-            (Ending::Finished, 0),
-            (Ending::Halted(0), 0),
-            (Ending::Halted(63), 63),
-            (Ending::Usage(UsageKind::Words), 64),
-            (Ending::Usage(UsageKind::Texts), 64),
-            (
-                Ending::Refused {
-                    line: 1,
-                    column: 9,
-                    kind: FaultKind::UnexpectedEnd,
-                },
-                65,
-            ),
-            (Ending::ReadFault, 66),
-            (Ending::Budget, 67),
-            (Ending::WriteFault, 68),
-            (Ending::NoMemory, 69),
-            (Ending::TooLong, 70),
-        ] {
-            assert_eq!(rt; code(&ending), status, "{ending:?}");
-        }
-    }
-}

@@ -1,3 +1,0 @@
-mod HandRunLemmas
-mod FailingLemmas
-mod AskedLemmas

@@ -1,3 +1,0 @@
-pub mod FailingQueries
-pub mod HandRuns
-pub mod AskedJobs
