@@ -17,3 +17,4 @@ pub mod InTurnLemmas
 pub mod WritingLemmas
 pub mod MadeBindingLemmas
 pub mod ListGoalLemmas
+pub mod OlderBindingLemmas

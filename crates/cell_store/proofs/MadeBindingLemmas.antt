@@ -255,7 +255,7 @@ module _ (p : Parts) (k : IsConsistent p) (m : Mark) (old : IsConsistentAt p m) 
       let places : older_code.places ++ drop m.made p.heap.made ≡ code.places = append_assoc p.heap.program.places (take m.made p.heap.made) (drop m.made p.heap.made) ∙ ap (λ ps. p.heap.program.places ++ ps) (take-append-drop m.made p.heap.made) in
       subst (Keeps older_code) (ap₂ (λ ns ps. (let c : CodeView = record { names = ns; places = ps } in c)) names places) (added_keeps older_code.names [] older_code.places (drop m.made p.heap.made) old.text)
 
-  composed : (further : Substitution) → ((v : ℕ) → variable_cell older_cells v ≡ Free → value_of further v ≡ value_of now v) → (v : ℕ) → resolve further (value_of earlier v) ≡ value_of now v
+  pub composed : (further : Substitution) → ((v : ℕ) → variable_cell older_cells v ≡ Free → value_of further v ≡ value_of now v) → (v : ℕ) → resolve further (value_of earlier v) ≡ value_of now v
   composed further f = by_values older_code older_cells earlier old.falling old.values old.represents (λ v. resolve further (value_of earlier v) ≡ value_of now v)
       (λ v e. ap (resolve further) (free_stands older_code earlier v older_cells old.represents e) ∙ f v e)
       (λ v b h.

@@ -1,10 +1,10 @@
 -- The bindings that were made since a mark.
-use Rattle.std.specs.Prelude.{◌≡◌, ◌⊎◌, ℕ, ◌<◌, ◌≤◌, List, [], ◌∷◌, map, length, drop}
+use Rattle.std.specs.Prelude.{◌≡◌, ◌⊎◌, ℕ, ◌<◌, ◌≤◌, List, [], ◌∷◌, ◌++◌, map, length, drop}
 use Rattle.std.specs.List.{Contains}
 use Rattle.std.specs.List.Sorted.{IsStrictlyIncreasing}
-use Rattle.au_term.specs.Term.{VarTerm}
+use Rattle.au_term.specs.Term.{VarTerm, var_bound}
 use Rattle.au_model.specs.Terms.Each.{Each}
-use Rattle.au_model.specs.Terms.Substitutions.{Substitution, value_of}
+use Rattle.au_model.specs.Terms.Substitutions.{Substitution, value_of, resolve}
 use Rattle.binding_array.specs.Represented.{variable_cell, IsFalling}
 use Rattle.binding_array.specs.declared.cell.BindingCell.{BindingCell}
 use Rattle.binding_array.specs.declared.cell.BindingCell.TheVariants.{Free, Var, Int, Atom, Compound}
@@ -58,3 +58,35 @@ pub record AreMadeSince (before : Moment) (st : StoreView) (bs : Bindings) : Typ
   pub there : Each (λ b. IsValueIn st b.1) bs
   pub falling : Each (λ b. IsFalling b.0 b.1) bs
   pub made : IsComposition before.bound (substitution_of st bs) (substitution st)
+
+-- what a variable was bound to, as it was given
+pub record IsBindingOf (st : StoreView) (v : ℕ) (c : BindingCell) : Type 0 where
+  pub there : IsValueIn st c
+  pub stands : value_of (substitution st) v ≡ meaning st c
+  pub falling : IsFalling v c
+
+-- those of a trail that are below a number
+pub record AreOlderOf (trail : List ℕ) (below : ℕ) (vs : List ℕ) : Type 0 where
+  pub all : (v : ℕ) → Contains trail v → v < below → Contains vs v
+  pub others : Each (λ v. Contains trail v × (v < below)) vs
+
+-- variables that were there and free at a moment, among them all that were bound since; what each variable stood for then stands for
+-- what it stands for now, and has no variable that came later
+pub record AreOlderSince (before : Moment) (st : StoreView) (vs : List ℕ) : Type 0 where
+  pub later : before.next ≤ st.now.next
+  pub older : Each (λ v. v < before.next) vs
+  pub free : Each (λ v. value_of before.bound v ≡ VarTerm v) vs
+  pub all : (v : ℕ) → v < before.next → value_of before.bound v ≡ VarTerm v → (value_of (substitution st) v ≡ VarTerm v) ⊎ Contains vs v
+  pub unbound : (v : ℕ) → before.next ≤ v → value_of before.bound v ≡ VarTerm v
+  pub below : (v : ℕ) → v < before.next → var_bound (value_of before.bound v) ≤ before.next
+  pub further : (v : ℕ) → value_of (substitution st) v ≡ resolve (substitution st) (value_of before.bound v)
+
+-- at the mark over so many others
+abbrev pub AreOlderSinceMark : StoreView → ℕ → List ℕ → Type 0
+AreOlderSinceMark st mark vs = (before after : List Moment) (moment : Moment) → st.marks ≡ before ++ moment ∷ after → mark ≡ length before
+    → AreOlderSince moment st vs
+
+-- the next variable number there
+abbrev pub IsNextAtMark : StoreView → ℕ → ℕ → Type 0
+IsNextAtMark st mark next = (before after : List Moment) (moment : Moment) → st.marks ≡ before ++ moment ∷ after → mark ≡ length before
+    → next ≡ moment.next

@@ -3,7 +3,7 @@ ghost use Rattle.std.specs.Prelude.{◌≡◌, ◌<◌, ◌≤◌, ◌^◌, ℕ,
 ghost use Rattle.au_model.specs.Terms.Each.{Each};
 ghost use Rattle.std.specs.List.{Contains};
 ghost use Rattle.std.specs.List.Sorted.{IsStrictlyIncreasing};
-ghost use Rattle.cell_store.specs.MadeBindings.{AreSinceMark, IsSince, bindings_of};
+ghost use Rattle.cell_store.specs.MadeBindings.{AreOlderOf, AreSinceMark, IsSince, bindings_of};
 
 use crate::mark::Mark;
 use au_term::NoMemory;
@@ -66,4 +66,21 @@ fn bindings_of(
         }
     }
     Ok(bindings)
+}
+
+/// Those variables of a trail that are below a number.
+pub(crate) fn older_variables(
+    alloc: Global,
+    trail: &[u32],
+    below: usize,
+) -> Result<Vec<u32>, NoMemory>
+    ensures { IfOk result (λ vs. AreOlderOf trail.now below vs.items) }
+{
+    let mut older = Vec::new(alloc);
+    for variable in trail {
+        if (*variable as usize) < below {
+            older.push(*variable)?;
+        }
+    }
+    Ok(older)
 }

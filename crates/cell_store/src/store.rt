@@ -11,13 +11,13 @@ ghost use Rattle.cell_store.specs.Arguments.{HasFunctor, IsArgument, IsArgumentV
 ghost use Rattle.cell_store.specs.ArgumentSteps.{IsCompoundPlace, IsFreshPlace, IsArgumentReached};
 ghost use Rattle.cell_store.specs.FreshVariables.{AreOlder, AreYoung};
 ghost use Rattle.cell_store.specs.ListGoals.{list_goal};
-ghost use Rattle.cell_store.specs.MadeBindings.{AreMadeSince};
+ghost use Rattle.cell_store.specs.MadeBindings.{AreMadeSince, AreOlderSinceMark, IsBindingOf, IsNextAtMark};
 ghost use Rattle.cell_store.specs.UnificationSteps.{AllEquations, IsSolved, IsUnified, OnlyBinds, equations_left};
 ghost use Rattle.cell_store.specs.StoreView.{Moment, IsValidStore, IsValueIn, IsDereferenced, CanBeBound, BindsFurther, AddsText, meaning, substitution, text_in, value_term, new_store, with_numbers, with_mark, with_marks, taken_back, over_floor};
 
 use crate::arguments::{Arguments, Equations};
 use crate::heap::Heap;
-use crate::made::bindings_after;
+use crate::made::{bindings_after, older_variables};
 use crate::mark::{Mark, free_after, mark_of, protected};
 use crate::resolved::resolved;
 use crate::solve::solve;
@@ -420,6 +420,31 @@ impl Store {
         ensures { IfOk result (λ bs. AreMadeSince self.now.floor self.now bs.items) }
     {
         bindings_after(self.alloc, self.floor, &self.trail, &self.cells)
+    }
+
+    /// What a variable was bound to, if it is bound: no binding is followed.
+    pub fn binding(&self, variable: u32) -> Option<BindingCell>
+        requires { variable < self.now.now.next }
+        ensures { MatchOption result (value_of (substitution self.now) variable ≡ VarTerm variable) (IsBindingOf self.now variable) }
+    {
+        self.cells.get(variable)
+    }
+
+    /// The next variable number at a mark, by the number of marks before it.
+    pub fn next_at(&self, mark: usize) -> u32
+        requires { mark < length self.now.marks }
+        ensures { IsNextAtMark self.now mark result }
+    {
+        self.marks[mark].variables as u32
+    }
+
+    /// Variables that were there and free at a mark, by the number of marks before it: all of these that were bound since.
+    pub fn older_since(&self, mark: usize) -> Result<Vec<u32>, NoMemory>
+        requires { mark < length self.now.marks }
+        ensures { IfOk result (λ vs. AreOlderSinceMark self.now mark vs.items) }
+    {
+        let at = self.marks[mark];
+        older_variables(self.alloc, &self.trail[at.trail..], at.variables)
     }
 
     /// Marks the state of the store, and gives the number of marks before.

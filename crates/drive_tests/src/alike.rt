@@ -4,7 +4,6 @@ use run_model::RunEnd;
 use scheduler::drive;
 use stack_run::run_job;
 use std::alloc::Global;
-use std::sync::Wait;
 use std::test::Fail;
 use text_load::{Job, load};
 use toplevel::library;
@@ -42,16 +41,11 @@ pub(crate) fn run_in_turn(
 }
 
 /// Whether the run of a text on its tree writes and ends as the sequential one.
-pub(crate) fn is_driven_alike<R: Wait>(
-    rt: &R,
-    alloc: Global,
-    text: &str,
-    budget: u64,
-) -> Result<bool, Fail> {
+pub(crate) fn is_driven_alike(alloc: Global, text: &str, budget: u64) -> Result<bool, Fail> {
     let mut out = sink(alloc)?;
     let mut wanted = sink(alloc)?;
     let job = job_of(alloc, text)?;
-    let end = drive(rt, alloc, job, budget, 10_000, &mut out);
+    let end = drive(alloc, job, budget, 10_000, &mut out);
     let want = run_in_turn(alloc, text, budget, &mut wanted)?;
     Ok(end == want && out.taken() == wanted.taken())
 }

@@ -11,29 +11,24 @@ use sample_runs::terms::TERMS;
 use sample_runs::worlds::{WORLD, WORLD_ERRORS};
 use scheduler::drive;
 use std::alloc::Global;
-use std::sync::Wait;
 use std::test::Fail;
 
 #[test]
 fn control(rt: HostRuntime) -> Result<(), Fail> {
     for (text, budget, _, _) in CONTROL {
         assert!(rt;
-            is_driven_alike(&rt, rt.alloc(), text, number(budget))?,
+            is_driven_alike(rt.alloc(), text, number(budget))?,
             "{text} {budget}"
         );
     }
     Ok(())
 }
 
-/// The rows that end soon.
 #[test]
 fn worlds(rt: HostRuntime) -> Result<(), Fail> {
     for (text, budget, _, _) in WORLD {
-        if number(budget) >= 100_000 {
-            continue;
-        }
         assert!(rt;
-            is_driven_alike(&rt, rt.alloc(), text, number(budget))?,
+            is_driven_alike(rt.alloc(), text, number(budget))?,
             "{text} {budget}"
         );
     }
@@ -43,27 +38,24 @@ fn worlds(rt: HostRuntime) -> Result<(), Fail> {
 #[test]
 fn predicates(rt: HostRuntime) -> Result<(), Fail> {
     for (text, _) in PREDICATES {
-        assert!(rt;
-            is_driven_alike(&rt, rt.alloc(), text, 1_000_000)?,
-            "{text}"
-        );
+        assert!(rt; is_driven_alike(rt.alloc(), text, 1_000_000)?, "{text}");
     }
     Ok(())
 }
 
 /// Whether a query of this goal alone is driven as it runs.
-fn is_goal_driven_alike<R: Wait>(rt: &R, alloc: Global, goal: &str) -> Result<bool, Fail> {
+fn is_goal_driven_alike(alloc: Global, goal: &str) -> Result<bool, Fail> {
     let text = format!(in alloc; "?- {goal}. ?- catch(({goal}), E, true).")?;
-    is_driven_alike(rt, alloc, text.as_str(), 99)
+    is_driven_alike(alloc, text.as_str(), 99)
 }
 
 #[test]
 fn errors(rt: HostRuntime) -> Result<(), Fail> {
     for (goal, _) in ERRORS {
-        assert!(rt; is_goal_driven_alike(&rt, rt.alloc(), goal)?, "{goal}");
+        assert!(rt; is_goal_driven_alike(rt.alloc(), goal)?, "{goal}");
     }
     for (goal, _) in WORLD_ERRORS {
-        assert!(rt; is_goal_driven_alike(&rt, rt.alloc(), goal)?, "{goal}");
+        assert!(rt; is_goal_driven_alike(rt.alloc(), goal)?, "{goal}");
     }
     Ok(())
 }
@@ -71,7 +63,7 @@ fn errors(rt: HostRuntime) -> Result<(), Fail> {
 #[test]
 fn programs(rt: HostRuntime) -> Result<(), Fail> {
     for (text, lines) in PROGRAMS {
-        assert!(rt; is_driven_alike(&rt, rt.alloc(), text, 100_000)?, "{lines}");
+        assert!(rt; is_driven_alike(rt.alloc(), text, 100_000)?, "{lines}");
     }
     Ok(())
 }
@@ -84,17 +76,14 @@ fn terms_and_random_texts(rt: HostRuntime) -> Result<(), Fail> {
         let text = format!(in rt.alloc(); "?- {goals}.")?;
         // Some have operators that a text does not begin with.
         if is_loaded(rt.alloc(), text.as_str()) {
-            assert!(rt;
-                is_driven_alike(&rt, rt.alloc(), text.as_str(), 99)?,
-                "{term}"
-            );
+            assert!(rt; is_driven_alike(rt.alloc(), text.as_str(), 99)?, "{term}");
         }
     }
     let mut numbers = Numbers::from(1990);
     for _ in 0..100 {
         let text = random_text(&mut numbers, rt.alloc())?;
         assert!(rt;
-            is_driven_alike(&rt, rt.alloc(), text.as_str(), 1_000)?,
+            is_driven_alike(rt.alloc(), text.as_str(), 1_000)?,
             "{text}"
         );
     }
@@ -102,14 +91,9 @@ fn terms_and_random_texts(rt: HostRuntime) -> Result<(), Fail> {
 }
 
 /// How the run of a text ends, and how many bytes its sink takes, which has room for so many.
-fn end_in_room<R: Wait>(
-    rt: &R,
-    alloc: Global,
-    text: &str,
-    out: &mut MemorySink,
-) -> Result<(RunEnd, usize), Fail> {
+fn end_in_room(alloc: Global, text: &str, out: &mut MemorySink) -> Result<(RunEnd, usize), Fail> {
     let job = job_of(alloc, text)?;
-    let end = drive(rt, alloc, job, 99, 10_000, out);
+    let end = drive(alloc, job, 99, 10_000, out);
     Ok((end, out.taken().len()))
 }
 
@@ -117,7 +101,7 @@ fn end_in_room<R: Wait>(
 #[test]
 fn short_of_room(rt: HostRuntime) -> Result<(), Fail> {
     let mut out = MemorySink::new(rt.alloc(), 3)?;
-    let ended = end_in_room(&rt, rt.alloc(), "?- X = 1.", &mut out)?;
+    let ended = end_in_room(rt.alloc(), "?- X = 1.", &mut out)?;
     let want = RunEnd {
         end: RunEnding::WriteFault,
         answers: 0,
@@ -131,8 +115,8 @@ fn short_of_room(rt: HostRuntime) -> Result<(), Fail> {
 #[test]
 fn pieces(rt: HostRuntime) -> Result<(), Fail> {
     let text = "?- between(1, 300, X), write(' a long enough line, written many times '), fail.";
-    assert!(rt; is_driven_alike(&rt, rt.alloc(), text, 10_000)?, "{text}");
+    assert!(rt; is_driven_alike(rt.alloc(), text, 10_000)?, "{text}");
     let mut out = sink(rt.alloc())?;
-    assert_eq!(rt; end_in_room(&rt, rt.alloc(), "?- true.", &mut out)?.1, 8);
+    assert_eq!(rt; end_in_room(rt.alloc(), "?- true.", &mut out)?.1, 8);
     Ok(())
 }

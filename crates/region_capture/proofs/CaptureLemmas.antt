@@ -1,33 +1,37 @@
 -- A region that is taken off, choice point by choice point.
-use Rattle.std.proofs.Common.{◌≡◌, ℕ, ◌+◌, ◌-◌, ◌<◌, ◌≤◌, List, [], ◌∷◌, ◌++◌, append_assoc, append-nil, length, length-append, drop, take, slice_get, Some, refl, sym, ap, ◌∙◌, subst, arith, ◌⊎◌, zero, suc, Bool, true, false, ◌==◌, nat_lt, inl, inr}
+use Rattle.std.proofs.Common.{◌≡◌, ℕ, ◌+◌, ◌-◌, ◌<◌, ◌≤◌, List, [], ◌∷◌, ◌++◌, append_assoc, append-nil, length, length-append, drop, take, slice_get, Some, refl, sym, ap, ap₂, ◌∙◌, subst, arith, ◌⊎◌, zero, suc, Bool, true, false, ◌==◌, nat_lt, inl, inr}
 use Rattle.std.proofs.lemmas.Bool.Decides.{nat_tests}
 use Rattle.std.proofs.lemmas.List.{same_from_push, drop-append-le}
 use Rattle.std.proofs.Math.Seq.{take-append_seam}
 use Rattle.au_model.specs.Terms.Each.{Each}
 use Rattle.au_model.specs.Terms.Named.{NamedTerm}
-use Rattle.run_model.specs.Machine.Entries.{Entry}
+use Rattle.au_model.specs.Terms.Substitutions.{value_of}
+use Rattle.run_model.specs.Laws.Numbering.{IsNamedBelow}
+use Rattle.run_model.specs.Machine.Entries.{Entry, PlainEntry}
 use Rattle.cell_store.specs.StoreView.{Moment}
+use Rattle.branch_bindings.specs.Extensions.{ExtendsBy}
 use Rattle.region_split.specs.ChoicePoints.{height_of_cut}
 use Rattle.region_split.specs.QueryEnds.{StandsForNoEnd}
-use Rattle.region_split.specs.Regions.{RegionView, entries_of, heights_of, items_here, IsPositionIn}
+use Rattle.region_split.specs.Regions.{RegionView, entries_of, heights_of, items_here, position_entry, IsPositionIn}
 use Rattle.region_split.specs.declared.choice.ChoicePoint.{ChoicePoint}
 use Rattle.region_split.specs.declared.frame.Position.{Position}
 use Rattle.region_split.proofs.RegionLemmas.{EndsWith, ends_with}
 use Rattle.au_model.proofs.EachLemmas.{each-append, each-more}
-use Rattle.run_model.specs.Machine.Items.{Item, GoalItem, CatchMark, CollectMark, RemovalItem}
-use Rattle.region_capture.proofs.PositionLemmas.{items_marked, later_marks}
-use Rattle.region_capture.specs.CapturedItems.{ItemLists, AddsItems}
-use Rattle.region_capture.specs.CapturedMeanings.{MeansAlternative, MeantAlternative}
+use Rattle.run_model.specs.Machine.Items.{Item, GoalItem, CatchMark, CollectMark, RemovalItem, Continuation}
+use Rattle.region_capture.proofs.PositionLemmas.{items_marked, items_over, later_marks}
+use Rattle.region_capture.specs.CapturedItems.{ItemLists, AddsItems, IsItemOver}
+use Rattle.region_capture.specs.CapturedMeanings.{captured_bindings, MeansAlternative, MeantAlternative, meant_continuation}
 use Rattle.region_capture.specs.CapturedChoices.{BoundThen, MeantChoice, group_entries, bound_under, CaptureChoices, CapturesChoice, meant_entries, AreHeightsOf, IsGuardOver, MarksGuard, MarkGuards}
 use Rattle.region_capture.specs.CapturedRegions.{IsCaptureFloor, bound_at, CapturesRegion}
-use Rattle.region_capture.specs.CaptureSteps.{CapturesPosition, CapturesNewest, HasOwnOnTop, IsGuarding, IsGuardAt, HasMarkAt, HasMarksAt}
+use Rattle.region_capture.specs.CaptureSteps.{CapturesNewest, HasOwnOnTop, IsGuarding, IsGuardAt, HasMarkAt, HasMarksAt}
+use Rattle.region_capture.specs.NeededBindings.{AreNeeded, CapturesCurrent}
 use Rattle.region_capture.specs.declared.captured.Captured.{Captured}
 use Rattle.region_capture.specs.declared.captured.CapturedChoice.{CapturedChoice}
 use Rattle.region_capture.proofs.ChoiceLemmas.{more_choices, under-append, choices-append, entries-append, heights-append}
 use Rattle.region_capture.proofs.ComesBackLemmas.{whole_height}
 use Rattle.region_capture.proofs.ItemLemmas.{got_still, got_next, items_kept}
 use Rattle.region_capture.proofs.MeantLemmas.{same_entries}
-use Rattle.region_capture.proofs.ReachedLemmas.{left_at, position_means}
+use Rattle.region_capture.proofs.NeededLemmas.{items_same, names_same}
 
 -- the newest mark
 abbrev pub IsNewest : RegionView → Moment → Type 0
@@ -191,7 +195,7 @@ own_there old r floor lists taken f k over cs c is =
 
 -- all were taken off
 module _ (old new : RegionView) (floor : ℕ) (p : Position) (none first : ItemLists) (c : Captured) (f : IsCaptureFloor floor old) (there : IsPositionIn old p) (many : length old.store.marks ≡ length old.choices) (mark : ℕ) (at : mark + 1 ≡ length old.choices)
-    (current : CapturesPosition old mark p none first c.current) (adds : AddsItems first c.items) (k : CapturesDownTo old new floor c.items c.choices.items) (low : length new.choices ≤ floor) where
+    (current : CapturesCurrent old mark p none first c.current) (adds : AddsItems first c.items) (k : CapturesDownTo old new floor c.items c.choices.items) (low : length new.choices ≤ floor) where
   same : length new.choices ≡ floor
   same = let h = k.high in omega (arith, low, h)
 
@@ -207,11 +211,31 @@ module _ (old new : RegionView) (floor : ℕ) (p : Position) (none first : ItemL
   under_is : under ≡ bound_at top.last
   under_is = k.newest start.last top.last (start.before, start.is) (top.before, top.is)
 
-  means : MeansAlternative c.items under.bound under.next (length old.choices) c.current (left_at old p)
+  need : AreNeeded top.last old.store (items_here old p) c.current.bindings
+  need = current.bindings top.last (record { before = top.before; after = []; are = top.is; over = sym top.long })
+
+  abbrev goes : MeantAlternative
+  goes = record { items = items_here old p; bound = need.bound; next = old.store.now.next }
+
+  means : MeansAlternative c.items under.bound under.next (length old.choices) c.current goes
   means =
-      let m = position_means old mark (length old.choices) p none first c.current top.last (record { before = top.before; after = []; are = top.is; over = sym top.long }) there current in
-      subst (λ (b : BoundThen). MeansAlternative c.items b.bound b.next (length old.choices) c.current (left_at old p)) (sym under_is)
-      (record { items = items_kept first c.items c.current.first (items_here old p) adds m.items; extends = m.extends; next = m.next; more = m.more; over = m.over })
+      subst (λ (b : BoundThen). MeansAlternative c.items b.bound b.next (length old.choices) c.current goes) (sym under_is)
+      (record {
+        items = items_kept first c.items c.current.first (items_here old p) adds current.items;
+        extends = subst (λ n. ExtendsBy top.last.bound need.bound n (captured_bindings c.current.bindings)) (sym current.next) need.extends;
+        next = sym current.next;
+        more = let le = need.later in let e = current.next in omega (arith, le, e);
+        over = subst (λ n. Each (IsItemOver n (length old.choices)) (items_here old p)) (sym current.next) (items_over old (length old.choices) p there);
+      })
+
+  older : (v : ℕ) → v < under.next → value_of goes.bound v ≡ value_of old.store.now.bound v
+  older v lt = need.older v (subst (λ (b : BoundThen). v < b.next) under_is lt)
+
+  entry_there : (named : List NamedTerm) → Each (IsNamedBelow under.next) named → position_entry named old p ≡ PlainEntry (meant_continuation (heights_of named old) named goes)
+  entry_there named below =
+      ap₂ (λ (is : List (Item ℕ)) (ns : List NamedTerm). PlainEntry (let k : Continuation ℕ = record { items = is; named = ns; next = old.store.now.next } in k))
+      (items_same goes.bound old.store.now.bound (heights_of named old) (items_here old p) need.same)
+      (names_same goes.bound old.store.now.bound under.next older named below)
 
   got : slice_get old.store.marks (floor - 1) ≡ Some start.last
   got =
@@ -241,16 +265,16 @@ module _ (old new : RegionView) (floor : ℕ) (p : Position) (none first : ItemL
   region_captured = record {
     start = start.last;
     marked = got;
-    current = left_at old p;
+    current = goes;
     choices = k.choices;
     many = let l = k.counted in let s = same in omega (arith, l, s);
     goes_on = means;
-    now = refl;
-    entry = λ named. refl;
+    now = older;
+    entry = entry_there;
     captured = subst (λ n. CaptureChoices c.items (bound_at start.last) n c.choices.items k.choices) same (k.captured start.last (start.before, start.is));
     entries = k.entries;
     heights = λ named. subst (λ n. AreHeightsOf (heights_of named old) named n (length (entries_of named new)) k.choices) same (k.heights named);
-    marks = alternative_marks (left_at old p) (items_marked old (length old.choices) p there);
+    marks = alternative_marks goes (items_marked old (length old.choices) p there);
     choice_marks = each-more (λ m. Each (HasMarksAt old.choices) m.alternatives) (λ m. Each (MarkGuards floor k.choices) m.alternatives) (λ m h. each-more (HasMarksAt old.choices) (MarkGuards floor k.choices) alternative_marks m.alternatives h) k.choices k.marks;
     below = λ named n le. k.below named n (let h = k.high in omega (arith, le, h));
     left = sym (ap (take floor) k.were ∙ (ap (λ n. take n (new.choices ++ k.rest)) (sym same) ∙ take-append_seam new.choices k.rest));

@@ -11,3 +11,5 @@ pub mod SolutionsLemmas
 pub mod GroupLemmas
 pub mod ChoiceLemmas
 pub mod CaptureLemmas
+pub mod SeenLemmas
+pub mod NeededLemmas

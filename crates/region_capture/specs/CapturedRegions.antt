@@ -1,7 +1,9 @@
 -- What is taken off a region above some of its choice points.
-use Rattle.std.specs.Prelude.{◌≡◌, ℕ, ◌+◌, ◌-◌, ◌≤◌, List, ◌++◌, length, drop, take, slice_get, Some}
+use Rattle.std.specs.Prelude.{◌≡◌, ℕ, ◌+◌, ◌-◌, ◌<◌, ◌≤◌, List, ◌++◌, length, drop, take, slice_get, Some}
 use Rattle.au_model.specs.Terms.Each.{Each}
 use Rattle.au_model.specs.Terms.Named.{NamedTerm}
+use Rattle.au_model.specs.Terms.Substitutions.{value_of}
+use Rattle.run_model.specs.Laws.Numbering.{IsNamedBelow}
 use Rattle.run_model.specs.Machine.Entries.{PlainEntry}
 use Rattle.cell_store.specs.StoreView.{Moment}
 use Rattle.region_split.specs.ChoicePoints.{height_of_cut}
@@ -23,7 +25,8 @@ abbrev pub bound_at : Moment → BoundThen
 bound_at m = record { bound = m.bound; next = m.next }
 
 -- what was left at a position and above so many choice points was taken off: it means the entry at the position and those of the choice
--- points above; what was bound then was made, choice point by choice point, of what was bound when the newest of the others came
+-- points above; what was bound then was made, choice point by choice point, of what was bound when the newest of the others came. At the
+-- position as much is bound as gives the items there, and each variable that was there when the newest choice point came, what they stand for
 pub record CapturesRegion (old new : RegionView) (floor : ℕ) (p : Position) (c : Captured) : Type 0 where
   pub start : Moment
   pub marked : slice_get old.store.marks (floor - 1) ≡ Some start
@@ -31,8 +34,9 @@ pub record CapturesRegion (old new : RegionView) (floor : ℕ) (p : Position) (c
   pub choices : List MeantChoice
   pub many : length old.choices ≡ floor + length choices
   pub goes_on : let under = bound_under (bound_at start) choices in MeansAlternative c.items under.bound under.next (length old.choices) c.current current
-  pub now : current.bound ≡ old.store.now.bound
-  pub entry : (named : List NamedTerm) → position_entry named old p ≡ PlainEntry (meant_continuation (heights_of named old) named current)
+  pub now : (v : ℕ) → v < (bound_under (bound_at start) choices).next → value_of current.bound v ≡ value_of old.store.now.bound v
+  pub entry : (named : List NamedTerm) → Each (IsNamedBelow (bound_under (bound_at start) choices).next) named
+      → position_entry named old p ≡ PlainEntry (meant_continuation (heights_of named old) named current)
   pub captured : CaptureChoices c.items (bound_at start) floor c.choices.items choices
   pub entries : (named : List NamedTerm) → entries_of named old ≡ meant_entries (heights_of named old) named choices ++ entries_of named new
   pub heights : (named : List NamedTerm) → AreHeightsOf (heights_of named old) named floor (length (entries_of named new)) choices

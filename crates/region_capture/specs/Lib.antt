@@ -3,3 +3,4 @@ pub mod CapturedMeanings
 pub mod CapturedChoices
 pub mod CapturedRegions
 pub mod CaptureSteps
+pub mod NeededBindings

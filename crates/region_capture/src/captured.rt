@@ -37,8 +37,8 @@ pub struct CapturedChoice {
     pub next: VarNo,
 }
 
-/// What is left to do at a position, with the bindings that were made since the newest choice point came, and the choice points,
-/// the newest first.
+/// What is left to do at a position, with those bindings since the newest choice point came that it or a variable of that time can
+/// reach, and the choice points, the newest first.
 #[derive(Drop)]
 pub struct Captured {
     pub items: CapturedItems,

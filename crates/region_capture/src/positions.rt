@@ -4,9 +4,11 @@ ghost use Rattle.region_split.specs.ClauseTrials.{IsOptionalPosition};
 ghost use Rattle.region_split.specs.Regions.{IsPositionIn, items_here};
 ghost use Rattle.region_capture.specs.CapturedItems.{AddsItems, HasItems, captured_item};
 ghost use Rattle.region_capture.specs.CaptureSteps.{CapturesPosition, CapturesReached};
+ghost use Rattle.region_capture.specs.NeededBindings.{CapturesCurrent};
 
 use crate::captured::CapturedAlternative;
 use crate::items::{CapturedItem, CapturedItems};
+use crate::needed::bindings_needed;
 use crate::writing::{bindings_since, written_item};
 use au_term::NoMemory;
 use region_split::{Left, Position, Region};
@@ -48,6 +50,30 @@ pub(crate) fn capture_position(
     region.ends_are_oldest();
     let first = capture_items(region, alloc, position, items)?;
     let bindings = bindings_since(region.store(), alloc, mark)?;
+    let next = u64::from(region.store().next());
+    Ok(CapturedAlternative {
+        first,
+        bindings,
+        next,
+    })
+}
+
+/// What is left at a position, with those bindings since the mark over so many others that it can reach, and those of variables that
+/// were there at the mark.
+pub(crate) fn capture_current(
+    region: &Region,
+    alloc: Global,
+    mark: usize,
+    position: Position,
+    items: &mut CapturedItems,
+) -> Result<CapturedAlternative, NoMemory>
+    requires mark { mark < length region.now.choices }
+    requires position { IsPositionIn region.now position }
+    ensures { IfOk result (CapturesCurrent region.now mark position items.old items.new) }
+{
+    region.ends_are_oldest();
+    let first = capture_items(region, alloc, position, items)?;
+    let bindings = bindings_needed(region.store(), alloc, mark, items, first)?;
     let next = u64::from(region.store().next());
     Ok(CapturedAlternative {
         first,

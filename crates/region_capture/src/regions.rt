@@ -6,7 +6,7 @@ ghost use Rattle.region_capture.specs.CapturedRegions.{CapturesRegion, IsCapture
 use crate::alternatives::capture_newest;
 use crate::captured::Captured;
 use crate::items::CapturedItems;
-use crate::positions::capture_position;
+use crate::positions::capture_current;
 use au_term::NoMemory;
 use region_split::{Position, Region};
 use std::alloc::Global;
@@ -25,7 +25,7 @@ pub fn capture(
     region.ends_are_oldest();
     let mut items = CapturedItems::new(alloc);
     let newest = region.height() - 1;
-    let current = capture_position(region, alloc, newest, position, &mut items)?;
+    let current = capture_current(region, alloc, newest, position, &mut items)?;
     let mut choices = Vec::new(alloc);
     while region.height() > floor as usize {
         choices.push(capture_newest(region, alloc, &mut items)?)?;

@@ -11,7 +11,8 @@ use std::alloc::Global;
 use std::process::Abort;
 use std::test::Fail;
 
-/// Over the end of a query and an alternative that calls a variable, the same goal with the variable bound to 7.
+/// Over the end of a query and an alternative that calls a variable, the same goal with the variable bound to 7, and a new variable,
+/// which nothing names, bound to 8.
 fn capture_binding(alloc: Global, region: &mut Region) -> Result<Captured, NoMemory>
     requires none { length region.old.choices ≡ 0 }
     requires variable { 0 < region.old.store.now.next }
@@ -23,6 +24,8 @@ fn capture_binding(alloc: Global, region: &mut Region) -> Result<Captured, NoMem
     let goal = region.push_item(FrameItem::Goal(BindingCell::Var(0)), 1, nothing)?;
     region.push_choice(Alternatives::Elsewhere, goal)?;
     region.unify(BindingCell::Var(0), BindingCell::Int(7))?;
+    let unnamed = region.fresh(1)?;
+    region.unify(BindingCell::Var(unnamed), BindingCell::Int(8))?;
     capture(region, alloc, 1, goal)
 }
 
@@ -54,7 +57,7 @@ fn expect_goal(
     expect_term(rt, alloc, term, &single(alloc, Cell::Var(0))?)
 }
 
-/// The variable alone was bound, to 7.
+/// The variable was bound to 7, and no other binding is given.
 fn expect_bound(rt: &impl Abort, alloc: Global, bindings: &Bindings) -> Result<(), Fail> {
     for binding in bindings.as_slice() {
         expect(rt, binding.var, 0);

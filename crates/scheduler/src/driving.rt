@@ -15,7 +15,6 @@ use hand_out_laws::laws::only_stops_stop;
 use run_model::{RunEnd, RunEnding};
 use std::alloc::Global;
 use std::marker::Brand;
-use std::sync::Wait;
 use task_serving::JobRun;
 use text_load::Job;
 use tree_core::{JobBrand, Tree};
@@ -23,27 +22,18 @@ use tree_core::{JobBrand, Tree};
 /// Runs a job on its tree for at most `budget` inferences, by one worker, and writes its lines to `out`: to the byte, and with the
 /// ending and the numbers, the sequential run of the job. A run that a failed write or running out of memory cuts short has written
 /// a prefix of its text, and its numbers are 0. Where `window` nodes are live, only the leftmost alternative is handed out.
-///
-/// The handle stands for what is not proved here: that the run comes to its end.
-pub fn drive<R: Wait, K: Sink>(
-    rt: &R,
-    alloc: Global,
-    job: Job,
-    budget: u64,
-    window: u64,
-    out: &mut K,
-) -> RunEnd
+/// A run that has taken 2^64 - 1 turns is given up like one that is out of memory.
+pub fn drive<K: Sink>(alloc: Global, job: Job, budget: u64, window: u64, out: &mut K) -> RunEnd
     ensures run { IsRun job budget (K.taken out.old) (K.taken out.new) result }
     ensures fault { result.end ≡ RunEnding.WriteFault → Increased (K.faults out.old) (K.faults out.new) }
     ensures quiet { result.end ≢ RunEnding.WriteFault → K.faults out.new ≡ K.faults out.old }
     ensures faults_stay { K.faults out.old ≤ K.faults out.new }
 {
-    drive_job::<Brand, R, K>(rt, alloc, job, budget, window, out)
+    drive_job::<Brand, K>(alloc, job, budget, window, out)
 }
 
 /// The same for the tree of the job.
-fn drive_job<J: JobBrand, R: Wait, K: Sink>(
-    rt: &R,
+fn drive_job<J: JobBrand, K: Sink>(
     alloc: Global,
     job: Job,
     budget: u64,
@@ -57,14 +47,13 @@ fn drive_job<J: JobBrand, R: Wait, K: Sink>(
     ensures faults_stay { K.faults out.old ≤ K.faults out.new }
 {
     match open::<J>(alloc, job, budget, window) {
-        Ok((tree, run)) => drive_on(rt, alloc, tree, run, budget, out),
+        Ok((tree, run)) => drive_on(alloc, tree, run, budget, out),
         Err(_) => cut_short(RunEnding::NoMemory),
     }
 }
 
 /// The same from where the tree stands.
-fn drive_on<J: JobBrand, R: Wait, K: Sink>(
-    rt: &R,
+fn drive_on<J: JobBrand, K: Sink>(
     alloc: Global,
     tree: Tree<J>,
     run: JobRun,
@@ -83,7 +72,7 @@ fn drive_on<J: JobBrand, R: Wait, K: Sink>(
     let mut tree = tree;
     let mut run = run;
     let mut put = 0;
-    for _ in rt.forever() {
+    for _turn in 0..u64::MAX {
         if let Some(end) = end_of(&tree, budget) {
             return close(&run.world.out, put, end, out);
         }
@@ -97,7 +86,7 @@ fn drive_on<J: JobBrand, R: Wait, K: Sink>(
             Err(_) => return cut_short(RunEnding::WriteFault),
         }
     }
-    unreachable!()
+    cut_short(RunEnding::NoMemory)
 }
 
 /// Puts out what was written behind so many bytes, and ends the run so, unless the write fails.

@@ -335,6 +335,18 @@ fn made_since(
     store.made_since(mark)
 }
 
+fn older_since(rt: &impl Abort, store: &Store, mark: usize) -> Result<Vec<u32>, NoMemory> {
+    assert!(rt; mark < store.marks());
+    store.older_since(mark)
+}
+
+/// Two older variables were bound since a mark, the first and the last one.
+fn expect_older(rt: &impl Abort, store: &Store, mark: usize) -> Result<(), Fail> {
+    let older = older_since(rt, store, mark)?;
+    expect(rt, matches!(older.as_slice(), [0, 3]), true);
+    Ok(())
+}
+
 /// Two bindings since a mark: that of the first variable, and that of the last one to the third.
 fn expect_two(rt: &impl Abort, store: &Store, mark: usize) -> Result<(), Fail> {
     match made_since(rt, store, mark)?.as_slice() {
@@ -351,6 +363,7 @@ fn bind_two(rt: &impl Abort, alloc: Global, store: &mut Store) -> Result<(), Fai
     let mark = mark(store)?;
     let (left, right) = ([(false, 0), (false, 3)], [(true, 1), (false, 2)]);
     expect(rt, unifies(rt, alloc, store, &left, &right)?, true);
+    expect_older(rt, store, mark)?;
     expect_two(rt, store, mark)
 }
 

@@ -1,9 +1,16 @@
 -- Bodies that are made of what was taken off a task's region.
-use Rattle.std.proofs.Common.{◌≡◌, ℕ, zero, suc, ◌+◌, ◌-◌, ◌<◌, true, IfOk, Result, Ok, Err, get_or, List, [], ◌∷◌, ◌++◌, length, map, reverse, slice_get, Option, Some, None, refl, sym, ap, ◌∙◌, subst, arith}
+use Rattle.std.proofs.Common.{◌≡◌, ℕ, zero, suc, ◌+◌, ◌-◌, ◌<◌, ◌≤◌, true, IfOk, Result, Ok, Err, get_or, List, [], ◌∷◌, ◌++◌, length, map, reverse, slice_get, Option, Some, None, refl, sym, ap, ◌∙◌, subst, arith}
 use Rattle.std.specs.Prelude.{is_some}
 use Rattle.std.specs.Option.{option_map}
 use Rattle.std.specs.List.{list_all}
 use Rattle.au_term.proofs.LogicLemmas.{both, false_true}
+use Rattle.au_term.specs.Term.{Term, var_bound}
+use Rattle.std.proofs.lemmas.Bool.Decides.{nat_tests}
+use Rattle.au_model.specs.Terms.Each.{Each}
+use Rattle.au_model.proofs.EachLemmas.{each-append}
+use Rattle.run_model.specs.Laws.Numbering.{IsNamedBelow}
+use Rattle.region_floor.specs.Deferred.{carried_term}
+use Rattle.clause_compile.specs.declared.item.Item.TheVariants.{Goal, CatchEnd, Collect, Remove, End}
 use Rattle.au_model.specs.Terms.Named.{NamedTerm}
 use Rattle.run_model.specs.Machine.Entries.{Entry}
 use Rattle.run_model.specs.Machine.Items.{Item}
@@ -23,7 +30,7 @@ use Rattle.tree_nodes.specs.Rows.{StoredNode, Rows, row_of_node}
 use Rattle.tree_nodes.specs.TreeTables.{NodesView, IsTableOf, IsWayTo}
 use Rattle.branch_reading.specs.BranchSegments.{above_in_query, own_segments, binding_equations, bindings_on, segments_on, next_number}
 use Rattle.branch_reading.specs.Readings.{items_meant, named_of, query_on}
-use Rattle.branch_reading.specs.SettledWays.{branch_items, is_item_settled, items_on, is_way_settled}
+use Rattle.branch_reading.specs.SettledWays.{branch_items, is_item_settled, is_term_below, items_on, is_way_settled}
 use Rattle.branch_bindings.specs.ExtensionLaws.{UnifiersStandForOlder, UnifiersAreFinal}
 use Rattle.branch_loading.specs.PlacesUp.{AreAllUp, PlacesAreLevels}
 use Rattle.branch_shapes.specs.FloorItems.{items_over_floor}
@@ -36,6 +43,10 @@ use Rattle.task_publishing.specs.OwnEntries.{IsOverEnds, placement_of, StandsFor
 use Rattle.branch_loading.specs.TaskLoads.{IsBoundOnBranch}
 use Rattle.task_publishing.specs.OwnBodies.{HasOwn, HasSomeOwn, IsTakenOffTask, IsBranchAt, CanBePublished, MeanOwn, MeanFromStart, MeanTask, AreNumbersUp}
 use Rattle.task_publishing.proofs.NodesDownLemmas.{numbers, nodes_down}
+
+-- a term is below a number
+settled_below : (next : ℕ) (t : Term) → is_term_below next t ≡ true → var_bound t ≤ next
+settled_below next t h = grind (arith, nat_tests)
 
 -- the way to a branch has its goals and its next number
 module _ (rows : Rows) (v : Level) (up : List Level) (way : Branching) (goals : List BranchItem) (base : ℕ) (on : IsWayTo rows (v ∷ up) way)
@@ -110,13 +121,23 @@ within [] i h = absurd (cc h)
 within (x ∷ xs) zero h = omega arith
 within (x ∷ xs) (suc i) h = let l = within xs i h in omega (arith, l)
 
+-- what is deferred has variables below the next number
+carried_below : (next : ℕ) (levels : List Level) (items : List BranchItem) → list_all (is_item_settled next) items ≡ true
+    → Each (IsNamedBelow next) (map carried_term (items_over_floor levels (items_meant items)))
+carried_below next levels [] h = tt
+carried_below next levels (Goal term cut ∷ items) h = let k = both _ _ h in (settled_below next term k.0, carried_below next levels items k.1)
+carried_below next levels (CatchEnd scope ∷ items) h = (omega arith, carried_below next levels items h)
+carried_below next levels (Collect template scope ∷ items) h = let k = both _ _ h in (settled_below next template k.0, carried_below next levels items k.1)
+carried_below next levels (Remove id ∷ items) h = (omega arith, carried_below next levels items h)
+carried_below next levels (End ball ∷ items) h = false_true h
+
 -- a task's region goes on at a position
 module _ (nodes : NodesView) (a : Place) (t : TaskView) (c : Captured) (bodies : List Body) (branch : List ℕ) (goals : List BranchItem) (base : ℕ)
     (law : OwnEntriesAreTaken) (older : UnifiersStandForOlder) (last : UnifiersAreFinal) (placed : PlacesAreLevels) (off : IsTakenOffTask t c)
     (made : MeanPublished c goals base branch (length nodes.rows) bodies)
     (up : AreNumbersUp nodes.rows a branch) (there : IsBranchAt nodes.rows a goals base) where
   module _ (job : Job) (read : Reading) (v : Level) (above : List Level) (was : Status) (way : Branching) (own : List Entry) (at : place_at v ≡ a)
-      (table : IsTableOf nodes read (plug (v ∷ above) was)) (on : IsWayTo nodes.rows (v ∷ above) way) (can : CanBePublished (v ∷ above) way)
+      (table : IsTableOf nodes read (plug (v ∷ above) was)) (on : IsWayTo nodes.rows (v ∷ above) way) (can : CanBePublished job (v ∷ above) way)
       (has : HasOwn (v ∷ above) (named_of (query_on job way)) (items_on way) t own) where
     abbrev levels : List Level
     levels = v ∷ above
@@ -145,12 +166,22 @@ module _ (nodes : NodesView) (a : Place) (t : TaskView) (c : Captured) (bodies :
     start : (m : Moment) × (slice_get t.region.store.marks (t.floor - 1) ≡ Some m)
     start = got t.region.store.marks (t.floor - 1) (let m = off.marks in let s = off.floor.floor_is.some in let l = off.floor.floor_is.many in omega (arith, m, s, l))
 
-    taken : AreTakenOff levels (length nodes.rows) named items (bound_at start.0) c own
-    taken =
+    settled_on : (w : Branching) → is_way_settled w ≡ true → list_all (is_item_settled (next_number (segments_on w))) (items_on w) ≡ true
+    settled_on [] h = false_true h
+    settled_on ((b, i) ∷ w) h = (both _ _ (both _ _ h).1).0
+
+    below : IsBoundOnBranch way start.0 → Each (IsNamedBelow start.0.next) (carried named (items_over_floor levels (items_meant items)))
+    below bound =
+        subst (λ n. Each (IsNamedBelow n) (carried named (items_over_floor levels (items_meant items)))) (sym bound.next)
+        (each-append (IsNamedBelow (next_number (segments_on way))) named (map carried_term (items_over_floor levels (items_meant items))) can.named
+        (carried_below (next_number (segments_on way)) levels items (settled_on way can.settled)))
+
+    taken : IsBoundOnBranch way start.0 → AreTakenOff levels (length nodes.rows) named items (bound_at start.0) c own
+    taken bound =
         law levels (length nodes.rows) named items t.region off.left off.position own c start.0
         (stands_there t off.position levels named items own has off.next off.ends off.marks) can.scoped
         (subst (λ n. CapturesRegion t.region off.left n off.position c) (sym has.floor) off.captures)
-        (ap (λ n. slice_get t.region.store.marks (n - 1)) has.floor ∙ start.1)
+        (ap (λ n. slice_get t.region.store.marks (n - 1)) has.floor ∙ start.1) (below bound)
 
     made_here : MeanPublished c items (next_number (segments_on way)) (numbers levels) (length nodes.rows) bodies
     made_here =
@@ -158,23 +189,20 @@ module _ (nodes : NodesView) (a : Place) (t : TaskView) (c : Captured) (bodies :
         (subst (λ n. MeanPublished c items n branch (length nodes.rows) bodies) base_is
         (subst (λ (xs : List BranchItem). MeanPublished c xs base branch (length nodes.rows) bodies) goals_are made))
 
-    settled_on : (w : Branching) → is_way_settled w ≡ true → list_all (is_item_settled (next_number (segments_on w))) (items_on w) ≡ true
-    settled_on [] h = false_true h
-    settled_on ((b, i) ∷ w) h = (both _ _ (both _ _ h).1).0
-
     mean_own : IsBoundOnBranch way start.0 → MeanOwn job (length nodes.rows) levels way start.0.bound bodies own
     mean_own bound =
-        let place = placement_of levels (length nodes.rows) named taken.groups in
+        let off_here = taken bound in
+        let place = placement_of levels (length nodes.rows) named off_here.groups in
         let eqs = binding_equations (bindings_on (segments_on way)) in
         let bound_there : IsBoundAtStart (next_number (segments_on way)) (bound_at start.0)
         = record { number = bound.next; older = older eqs start.0.bound bound.bound; applied = last eqs start.0.bound bound.bound } in
         let deferred : IsDeferredAt place items (next_number (segments_on way)) (numbers levels) (length nodes.rows)
         = record { nodes = nodes_down levels; number = refl; names = can.scoped; settled = settled_on way can.settled } in
         record {
-          current = published_entry place items Choice taken.current;
-          groups = taken.groups;
-          entries = taken.entries;
-          means = made_here place (bound_at start.0) taken.current taken.choices bound_there deferred taken.taken;
+          current = published_entry place items Choice off_here.current;
+          groups = off_here.groups;
+          entries = off_here.entries;
+          means = made_here place (bound_at start.0) off_here.current off_here.choices bound_there deferred off_here.taken;
         }
 
     pub means_from_start : MeanFromStart job (length nodes.rows) levels way t bodies own

@@ -25,6 +25,7 @@ use Rattle.branch_reading.specs.Readings.{named_of, query_on, reading}
 use Rattle.branch_reading.specs.SettledWays.{items_on}
 use Rattle.branch_loading.specs.TaskLoads.{run_on_branch, IsBoundOnBranch, StartsOnBranch}
 use Rattle.branch_loading.proofs.LoadLemmas.{settled_bindings}
+use Rattle.branch_bindings.specs.ExtensionLaws.{SettledAreUnified}
 use Rattle.branch_shapes.specs.ExtendedWays.{SettledSegmentsBind}
 use Rattle.branch_shapes.specs.FloorItems.{ScopedItemsNameLevels}
 use Rattle.branch_shapes.specs.MeantRuns.{MeanRun, placement_at, MeantRunsFit, RunIsMeant, MeantRunsRead}
@@ -75,9 +76,10 @@ module _ (job : Job) (nodes : NodesView) (t : TreeState) (w : ℕ) (a : Place) (
     }
 
     module _ (bodies : List Body) (mean : MeanTask nodes a task bodies) (start : StartsOnBranch nodes a task) (number : length nodes.rows ≡ t.next)
-        (legal : IsLegalTree t) (numbered : NumberedTreesAreSettled) (scoped : ScopedItemsNameLevels) (bind : SettledSegmentsBind) where
-      can : CanBePublished levels here
-      can = can_be_published job nodes t w a placed s taken legal numbered scoped k _ some run_there
+        (legal : IsLegalTree t) (numbered : NumberedTreesAreSettled) (scoped : ScopedItemsNameLevels) (bind : SettledSegmentsBind)
+        (unified : SettledAreUnified) where
+      can : CanBePublished job levels here
+      can = can_be_published job nodes t w a placed s taken legal numbered scoped bind unified k _ some run_there
 
       from : MeanFromStart job (length nodes.rows) levels here task bodies rest.own
       from =
@@ -111,18 +113,18 @@ module _ (job : Job) (nodes : NodesView) (t : TreeState) (w : ℕ) (a : Place) (
           meant.means).2
 
   pub run_reads : (bodies : List Body) → MeanTask nodes a task bodies → StartsOnBranch nodes a task → length nodes.rows ≡ t.next → IsLegalTree t
-      → NumberedTreesAreSettled → ScopedItemsNameLevels → SettledSegmentsBind → MeantRunsRead → RunReadsAs nodes.rows bodies w a k (reading job) t
-  run_reads bodies mean start number legal numbered scoped bind law =
-      law job nodes.rows bodies w a k t (λ s taken. run_is_meant s taken bodies mean start number legal numbered scoped bind)
+      → NumberedTreesAreSettled → ScopedItemsNameLevels → SettledSegmentsBind → SettledAreUnified → MeantRunsRead → RunReadsAs nodes.rows bodies w a k (reading job) t
+  run_reads bodies mean start number legal numbered scoped bind unified law =
+      law job nodes.rows bodies w a k t (λ s taken. run_is_meant s taken bodies mean start number legal numbered scoped bind unified)
 
   spot : (o : Option Spot) → is_some o ≡ true → (s : Spot) × (o ≡ Some s)
   spot None out = absurd (cc out)
   spot (Some s) out = (s, refl)
 
   pub bodies_whole : (bodies : List Body) → MeanTask nodes a task bodies → StartsOnBranch nodes a task → length nodes.rows ≡ t.next → IsLegalTree t
-      → NumberedTreesAreSettled → ScopedItemsNameLevels → SettledSegmentsBind → MeantRunsFit → is_some (taken_at w a t) ≡ true → AreWhole bodies
-  bodies_whole bodies mean start number legal numbered scoped bind fit out =
-      let s = spot (taken_at w a t) out in whole_there s.0 s.1 bodies mean start number legal numbered scoped bind fit
+      → NumberedTreesAreSettled → ScopedItemsNameLevels → SettledSegmentsBind → SettledAreUnified → MeantRunsFit → is_some (taken_at w a t) ≡ true → AreWhole bodies
+  bodies_whole bodies mean start number legal numbered scoped bind unified fit out =
+      let s = spot (taken_at w a t) out in whole_there s.0 s.1 bodies mean start number legal numbered scoped bind unified fit
 
   pub has_own : is_some (taken_at w a t) ≡ true → HasSomeOwn task
   has_own out = let s = spot (taken_at w a t) out in own_there s.0 s.1

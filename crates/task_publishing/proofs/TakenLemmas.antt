@@ -9,6 +9,7 @@ use Rattle.au_model.specs.Terms.Each.{Each}
 use Rattle.au_model.specs.Terms.Named.{NamedTerm}
 use Rattle.au_model.specs.Terms.Substitutions.{Substitution}
 use Rattle.au_model.proofs.EachLemmas.{each-more}
+use Rattle.run_model.specs.Laws.Numbering.{IsNamedBelow}
 use Rattle.run_model.specs.Machine.Items.{Item, GoalItem, CatchMark, CollectMark, RemovalItem, resolve_item}
 use Rattle.run_model.specs.Machine.Entries.{Entry, PlainEntry}
 use Rattle.clause_compile.specs.declared.item.Item.{Item as BranchItem}
@@ -213,10 +214,27 @@ module _ (group : MeantChoice → List Entry) (same : (m : MeantChoice) → leng
   pub marks_over : (cut : ℕ) (ms : List MeantChoice) (a : MeantAlternative) → MarkGuards cut ms a → Each (IsOverChoices cut (map group (reverse ms))) a.items
   marks_over cut ms a h = each-more (MarksGuard cut ms) (IsOverChoices cut (map group (reverse ms))) (mark_over cut ms) a.items h
 
+-- there are more variables when a newer choice point comes
+under_more : (lists : ItemLists) (start : BoundThen) (cut : ℕ) (cs : List CapturedChoice) (ms : List MeantChoice)
+    → CaptureChoices lists start cut cs ms → start.next ≤ (bound_under start ms).next
+under_more lists start cut [] [] h = omega arith
+under_more lists start cut [] (m ∷ ms) h = absurd h
+under_more lists start cut (c ∷ cs) [] h = absurd h
+under_more lists start cut (c ∷ cs) (m ∷ ms) h =
+    let rest = under_more lists start cut cs ms h.1 in
+    let more = h.0.more in
+    let next = h.0.next in
+    omega (arith, rest, more, next)
+
+same_start : (old new : RegionView) (p : Position) (levels : List Level) (c : Captured) (k : CapturesRegion old new (length levels) p c) (start : Moment)
+    → slice_get old.store.marks (length levels - 1) ≡ Some start → k.start ≡ start
+same_start old new p levels c k start at = let both : Some k.start ≡ Some start = sym k.marked ∙ at in cc
+
 -- all of it together
 module _ (levels : List Level) (number : ℕ) (named : List NamedTerm) (items : List BranchItem) (old new : RegionView) (p : Position) (own : List Entry)
     (c : Captured) (stands : StandsForOwn levels named items old p own) (k : CapturesRegion old new (length levels) p c)
-    (names : Each (NamesLevels levels) (items_meant items)) (bound_now : IsBoundNow) (tops : TopsAreOwn) (ends : EndsAreFloor) (stay : FloorItemsStay) where
+    (names : Each (NamesLevels levels) (items_meant items))
+    (named_below : Each (IsNamedBelow k.start.next) (carried named (items_over_floor levels (items_meant items)))) (bound_now : IsBoundNow) (tops : TopsAreOwn) (ends : EndsAreFloor) (stay : FloorItemsStay) where
   abbrev floor : ℕ
   floor = length levels
 
@@ -296,7 +314,10 @@ module _ (levels : List Level) (number : ℕ) (named : List NamedTerm) (items : 
       (length old.choices) c.current k.current (omega arith) k.goes_on
 
   top_is : PlainEntry (continuation_here all_named old p) ≡ PlainEntry (meant_continuation heights all_named k.current)
-  top_is = k.entry all_named
+  top_is =
+      let le = under_more c.items (bound_at k.start) floor c.choices.items k.choices k.captured in
+      k.entry all_named (each-more (IsNamedBelow k.start.next) (IsNamedBelow (bound_under (bound_at k.start) k.choices).next)
+      (λ n b. omega (arith, b, le)) all_named named_below)
 
   can_be : (kind : CapturedKind) (a : MeantAlternative) → EndsDeferred a.items → MarkGuards floor k.choices a → is_guard_settled a.next (published_kind kind) ≡ true
       → CanBeBranch place kind a
@@ -338,21 +359,21 @@ module _ (levels : List Level) (number : ℕ) (named : List NamedTerm) (items : 
       ∙ entry_joined levels number named items gs heights (length old.choices) same_heights stays bound_now Choice k.current own_number)
       (ap (map (joined_entry whole)) below_is ∙ stacked_groups k.choices)
 
-  same_start : (start : Moment) → slice_get old.store.marks (floor - 1) ≡ Some start → k.start ≡ start
-  same_start start at = let both : Some k.start ≡ Some start = sym k.marked ∙ at in cc
-
   pub own_taken : (start : Moment) → slice_get old.store.marks (floor - 1) ≡ Some start → AreTakenOff levels number named items (bound_at start) c own
   own_taken start at = record {
     groups = gs;
     current = k.current;
     choices = k.choices;
-    taken = subst (λ (m : Moment). IsTakenOff place items (bound_at m) c k.current k.choices) (same_start start at) taken_there;
+    taken = subst (λ (m : Moment). IsTakenOff place items (bound_at m) c k.current k.choices) (same_start old new p levels c k start at) taken_there;
     entries = entries_there;
   }
 
 pub own_entries_taken : IsBoundNow → TopsAreOwn → EndsAreFloor → FloorItemsStay → OwnEntriesAreTaken
-own_entries_taken bound_now tops ends stay levels number named items old new p own c start stands names k at =
-    own_taken levels number named items old new p own c stands k names bound_now tops ends stay start at
+own_entries_taken bound_now tops ends stay levels number named items old new p own c start stands names k at below =
+    own_taken levels number named items old new p own c stands k names
+    (subst (λ (m : Moment). Each (IsNamedBelow m.next) (carried named (items_over_floor levels (items_meant items))))
+    (sym (same_start old new p levels c k start at)) below)
+    bound_now tops ends stay start at
 
 pub own_over_floor : TopsAreOwn → EndsAreFloor → OwnEntriesAreOverFloor
 own_over_floor tops ends levels named items r p own stands some =

@@ -3,6 +3,7 @@ use Rattle.std.specs.Prelude.{◌≡◌, ℕ, ◌+◌, ◌≤◌, true, List, �
 use Rattle.au_model.specs.Terms.Each.{Each}
 use Rattle.au_model.specs.Terms.Named.{NamedTerm}
 use Rattle.au_model.specs.Terms.Substitutions.{Substitution}
+use Rattle.run_model.specs.Laws.Numbering.{IsNamedBelow}
 use Rattle.run_model.specs.Machine.Entries.{Entry}
 use Rattle.run_model.specs.Programs.Jobs.{Job}
 use Rattle.clause_compile.specs.declared.event.Branch.{Branch}
@@ -57,9 +58,11 @@ pub record IsTakenOffTask (t : TaskView) (c : Captured) : Type 0 where
   pub at_floor : AreEndsAtFloor t.region.store.floor t.region.choices t.region.store.marks
   pub marks : length t.region.store.marks ≡ length t.region.choices
 
--- the branch of an alternative is settled, and its items name nodes of it, as in the tree of every legal history
-pub record CanBePublished (levels : List Level) (way : Branching) : Type 0 where
+-- the branch of an alternative is settled, its items name nodes of it, and its query's named variables are below its next number, as in
+-- the tree of every legal history
+pub record CanBePublished (job : Job) (levels : List Level) (way : Branching) : Type 0 where
   pub settled : is_way_settled way ≡ true
+  pub named : Each (IsNamedBelow (next_number (segments_on way))) (named_of (query_on job way))
   pub scoped : Each (NamesLevels levels) (items_meant (items_on way))
 
 -- a branch of a node has these goals, and this next variable number
@@ -87,7 +90,7 @@ MeanFromStart job number levels way t bodies own =
 abbrev pub MeanTask : NodesView → Place → TaskView → List Body → Type 0
 MeanTask nodes a t bodies =
     (job : Job) (read : Reading) (v : Level) (up : List Level) (was : Status) (way : Branching) (own : List Entry) → place_at v ≡ a
-    → IsTableOf nodes read (plug (v ∷ up) was) → IsWayTo nodes.rows (v ∷ up) way → CanBePublished (v ∷ up) way
+    → IsTableOf nodes read (plug (v ∷ up) was) → IsWayTo nodes.rows (v ∷ up) way → CanBePublished job (v ∷ up) way
     → HasOwn (v ∷ up) (named_of (query_on job way)) (items_on way) t own
     → MeanFromStart job (length nodes.rows) (v ∷ up) way t bodies own
 

@@ -2,6 +2,7 @@
 use Rattle.std.specs.Prelude.{◌≡◌, ℕ, ◌-◌, ◌≤◌, List, ◌∷◌, length, map, slice_get, Some, IsSomeAnd}
 use Rattle.au_model.specs.Terms.Each.{Each}
 use Rattle.au_model.specs.Terms.Named.{NamedTerm}
+use Rattle.run_model.specs.Laws.Numbering.{IsNamedBelow}
 use Rattle.run_model.specs.Machine.Entries.{Entry}
 use Rattle.clause_compile.specs.declared.item.Item.{Item as BranchItem}
 use Rattle.cell_store.specs.StoreView.{Moment}
@@ -11,7 +12,7 @@ use Rattle.region_split.specs.declared.frame.Position.{Position}
 use Rattle.region_floor.specs.BareFloors.{AreOwn, bare_stack}
 use Rattle.region_floor.specs.Deferred.{Deferred, joined_entry}
 use Rattle.tree_model.specs.Levels.{Level}
-use Rattle.task_region.specs.TaskViews.{position_stack}
+use Rattle.task_region.specs.TaskViews.{carried, position_stack}
 use Rattle.branch_reading.specs.Readings.{items_meant}
 use Rattle.branch_shapes.specs.FloorItems.{NamesLevels, items_over_floor}
 use Rattle.branch_shapes.specs.Groups.{Groups, stacked}
@@ -49,13 +50,15 @@ pub record AreTakenOff (levels : List Level) (number : ℕ) (named : List NamedT
   pub entries : map (joined_entry (deferred_over levels named items)) own
       ≡ published_entry (placement_of levels number named groups) items Choice current ∷ stacked groups
 
--- own entries that are captured are taken off, with what was bound when the newest choice point of the floor came as the start
+-- own entries that are captured are taken off, with what was bound when the newest choice point of the floor came as the start, where the
+-- query's named terms and what is deferred have variables of that time
 abbrev pub OwnEntriesAreTaken : Type 0
 OwnEntriesAreTaken =
     (levels : List Level) (number : ℕ) (named : List NamedTerm) (items : List BranchItem) (old new : RegionView) (p : Position) (own : List Entry)
     (c : Captured) (start : Moment)
     → StandsForOwn levels named items old p own → Each (NamesLevels levels) (items_meant items) → CapturesRegion old new (length levels) p c
-    → slice_get old.store.marks (length levels - 1) ≡ Some start → AreTakenOff levels number named items (bound_at start) c own
+    → slice_get old.store.marks (length levels - 1) ≡ Some start
+    → Each (IsNamedBelow start.next) (carried named (items_over_floor levels (items_meant items))) → AreTakenOff levels number named items (bound_at start) c own
 
 -- so many of the oldest choice points are the ends of a floor, at least one, and no others are ends
 pub record IsOverEnds (floor : ℕ) (r : RegionView) : Type 0 where

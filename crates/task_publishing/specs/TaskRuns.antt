@@ -1,5 +1,5 @@
 -- A task that has stopped on the private run of its alternative, and the nodes that are made of what it has left.
-use Rattle.std.specs.Prelude.{◌≡◌, ℕ, ◌+◌, ◌-◌, List, ◌∷◌, slice_get, Some, IsSome}
+use Rattle.std.specs.Prelude.{◌≡◌, ℕ, ◌+◌, List, ◌∷◌, IsSome}
 use Rattle.run_model.specs.Programs.Clauses.{Clause}
 use Rattle.run_model.specs.Programs.Jobs.{Job}
 use Rattle.region_split.specs.Texts.{TextView}

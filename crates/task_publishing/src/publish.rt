@@ -8,6 +8,7 @@ ghost use Rattle.branch_loading.specs.TaskLoads.{StartsOnBranch};
 
 use crate::bodies::bodies_of_task;
 use au_term::NoMemory;
+use branch_bindings::laws::extensions_are_unified;
 use branch_reading::laws::numbered_trees_are_settled;
 use branch_shapes::laws::{floor_items_stay, meant_runs_read, settled_segments_bind};
 use region_floor::laws::steps::{regions_run_privately, tops_are_own};
@@ -37,6 +38,7 @@ pub fn publish_task<J: JobBrand>(
     numbered_trees_are_settled();
     floor_items_stay();
     settled_segments_bind();
+    extensions_are_unified();
     meant_runs_read();
     regions_run_privately();
     tops_are_own();

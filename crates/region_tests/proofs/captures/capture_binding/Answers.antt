@@ -21,9 +21,15 @@ capture-requires-clause-position c =
     let p = c.in_ok-goal.goal in
     let put = c.in_ok-goal.ensures.ok in
     let adds = c.in_ok-push_choice-2.ensures.ok in
-    let stays = c.in_ok-unify.ensures.stays in
-    let many : 1 ≤ length c.unify.new.self.choices =
-    let e = ap (λ (x : RegionView). length x.choices) stays.others in
+    let bound = c.in_ok-unify.ensures.stays in
+    let grown = c.fresh.ensures.stays in
+    let unnamed = c.in_ok-unify-2.ensures.stays in
+    let last = c.unify-2.new.self in
+    let many : 1 ≤ length last.choices =
+    let e = ap (λ (x : RegionView). length x.choices) bound.others in
+    let g = ap (λ (x : RegionView). length x.choices) grown.others in
+    let u = ap (λ (x : RegionView). length x.choices) unnamed.others in
     let a = ap (λ (x : RegionView). length x.choices) adds.others in
-    omega (arith, e, a, length-append c.push_item.new.self.choices (adds.choice ∷ [])) in
-    position_more c.unify.new.self 1 (length c.unify.new.self.choices) p many (stays.position 1 p (adds.keeps.position 1 p put.position.frame put.position))
+    omega (arith, e, g, u, a, length-append c.push_item.new.self.choices (adds.choice ∷ [])) in
+    position_more last 1 (length last.choices) p many
+    (unnamed.position 1 p (grown.position 1 p (bound.position 1 p (adds.keeps.position 1 p put.position.frame put.position))))

@@ -7,38 +7,36 @@ use Rattle.scheduler.specs.Pieces.{PutsOn}
 use Rattle.scheduler.proofs.EndingLemmas.{closes_at, fails_at, puts_on_at}
 use Rattle.scheduler.proofs.driving.drive_on.Goals as goal
 
-pub returns-in-Some-end_of-clause-run : goal.returns-in-Some-end_of-clause-run
-returns-in-Some-end_of-clause-run g c =
-    let i = c.loop.invariant in
-    closes_at c.args.tree.history.job c.args.budget c.loop.tree.history c.loop.put (g.K.Sink.taken c.args.out.now) (g.K.Sink.taken c.loop.out) (g.K.Sink.taken c.close.new.out)
-    c.in-Some-end_of.end c.close.result c.loop.run.world.out.items i.2 i.3 c.in-Some-end_of.ensures.ended (ap (λ (w : World). w.written) i.5.world) i.6
-    (subst (λ (bytes : List ℕ). ClosesFrom bytes c.loop.put (g.K.Sink.taken c.loop.out) (g.K.Sink.taken c.close.new.out) c.in-Some-end_of.end c.close.result) c.deref.ensures.value c.close.ensures.closes)
+pub returns-in-Some-clause-run : goal.returns-in-Some-clause-run
+returns-in-Some-clause-run g c =
+    let i = c.loop-turn.invariant in
+    closes_at c.args.tree.history.job c.args.budget c.loop-turn.tree.history c.loop-turn.put (g.K.Sink.taken c.args.out.now) (g.K.Sink.taken c.loop-turn.out) (g.K.Sink.taken c.close.new.out)
+    c.in-Some.end c.close.result c.loop-turn.run.world.out.items i.job i.budget c.in-Some.ensures.ended (ap (λ (w : World). w.written) i.run.world) i.put
+    (subst (λ (bytes : List ℕ). ClosesFrom bytes c.loop-turn.put (g.K.Sink.taken c.loop-turn.out) (g.K.Sink.taken c.close.new.out) c.in-Some.end c.close.result) c.deref.ensures.value c.close.ensures.closes)
 
-pub loop-preserved : goal.loop-preserved
-loop-preserved g c =
-    let i = c.loop.invariant in
+pub loop-turn-preserved : goal.loop-turn-preserved
+loop-turn-preserved g c =
+    let i = c.loop-turn.invariant in
     let same = c.turn.ensures.same in
-    let job = same.job ∙ i.2 in
-    let budget = same.budget ∙ i.3 in (
-      tt,
-      tt,
-      job,
-      budget,
-      c.in-Ok.ensures.driven,
-      c.in-Ok.ensures.run,
-      puts_on_at c.args.tree.history.job c.args.budget c.turn.new.tree.history c.turn.new.run.world.out.items job budget c.keeps_promises.ensures.promises
-          (ap (λ (w : World). w.written) c.in-Ok.ensures.run.world) c.loop.put 8192 c.in-Ok-put_on.now (g.K.Sink.taken c.args.out.now) (g.K.Sink.taken c.loop.out) (g.K.Sink.taken c.put_on.new.out) i.6
-          (subst (λ (bytes : List ℕ). PutsOn bytes c.loop.put 8192 c.in-Ok-put_on.now (g.K.Sink.taken c.loop.out) (g.K.Sink.taken c.put_on.new.out)) c.deref-in-loop.ensures.value c.in-Ok-put_on.ensures.ok),
-      c.in-Ok-put_on.ensures.quiet ∙ i.7,
-    )
+    let job = same.job ∙ i.job in
+    let budget = same.budget ∙ i.budget in record {
+      job = job;
+      budget = budget;
+      driven = c.in-Ok.ensures.driven;
+      run = c.in-Ok.ensures.run;
+      put = puts_on_at c.args.tree.history.job c.args.budget c.turn.new.tree.history c.turn.new.run.world.out.items job budget c.keeps_promises.ensures.promises
+          (ap (λ (w : World). w.written) c.in-Ok.ensures.run.world) c.loop-turn.put 8192 c.in-Ok-put_on.now (g.K.Sink.taken c.args.out.now) (g.K.Sink.taken c.loop-turn.out) (g.K.Sink.taken c.put_on.new.out) i.put
+          (subst (λ (bytes : List ℕ). PutsOn bytes c.loop-turn.put 8192 c.in-Ok-put_on.now (g.K.Sink.taken c.loop-turn.out) (g.K.Sink.taken c.put_on.new.out)) c.deref-in-loop-turn.ensures.value c.in-Ok-put_on.ensures.ok);
+      quiet = c.in-Ok-put_on.ensures.quiet ∙ i.quiet;
+    }
 
 pub returns-in-Err-clause-run : goal.returns-in-Err-clause-run
 returns-in-Err-clause-run g c =
-    let i = c.loop.invariant in
+    let i = c.loop-turn.invariant in
     let same = c.turn.ensures.same in
     let err = c.in-Err.ensures.err in
     subst (IsRun c.args.tree.history.job c.args.budget (g.K.Sink.taken c.args.out.now) (g.K.Sink.taken c.put_on.new.out)) (sym c.cut_short-in-Err.ensures)
-    (fails_at c.args.tree.history.job c.args.budget c.turn.new.tree.history c.turn.new.run.world.out.items (same.job ∙ i.2) (same.budget ∙ i.3) c.keeps_promises.ensures.promises
-    (ap (λ (w : World). w.written) c.in-Ok.ensures.run.world) c.loop.put (g.K.Sink.taken c.args.out.now) (g.K.Sink.taken c.loop.out) (g.K.Sink.taken c.put_on.new.out) i.6
-    (subst (λ (bytes : List ℕ). c.loop.put ≤ length bytes) c.deref-in-loop.ensures.value err.0)
-    (subst (λ (bytes : List ℕ). AppendedPrefix (g.K.Sink.taken c.loop.out) (g.K.Sink.taken c.put_on.new.out) (drop c.loop.put bytes)) c.deref-in-loop.ensures.value err.1))
+    (fails_at c.args.tree.history.job c.args.budget c.turn.new.tree.history c.turn.new.run.world.out.items (same.job ∙ i.job) (same.budget ∙ i.budget) c.keeps_promises.ensures.promises
+    (ap (λ (w : World). w.written) c.in-Ok.ensures.run.world) c.loop-turn.put (g.K.Sink.taken c.args.out.now) (g.K.Sink.taken c.loop-turn.out) (g.K.Sink.taken c.put_on.new.out) i.put
+    (subst (λ (bytes : List ℕ). c.loop-turn.put ≤ length bytes) c.deref-in-loop-turn.ensures.value err.0)
+    (subst (λ (bytes : List ℕ). AppendedPrefix (g.K.Sink.taken c.loop-turn.out) (g.K.Sink.taken c.put_on.new.out) (drop c.loop-turn.put bytes)) c.deref-in-loop-turn.ensures.value err.1))

@@ -5,13 +5,12 @@ use Rattle.scheduler.specs.Driving.{IsDriven}
 use Rattle.scheduler.specs.Pieces.{HasPutOut}
 use Rattle.scheduler.proofs.driving.drive_on.Given as goal
 
-abbrev pub invariant-loop : goal.invariant-loop
-invariant-loop g l =
-    (goal.iterator-loop g).can_next l.iterator'
-    × (goal.iterator-loop g).is_finite l.iterator'
-    × (l.tree.history.job ≡ l.fn.tree.history.job)
-    × (l.tree.history.budget ≡ l.budget)
-    × IsDriven l.tree.history
-    × IsJobRun l.tree.history l.run
-    × HasPutOut (text_of l.fn.tree.history.job l.budget) l.put (g.K.Sink.taken l.fn.out) (g.K.Sink.taken l.out)
-    × (g.K.Sink.faults l.out ≡ g.K.Sink.faults l.fn.out)
+abbrev pub invariant-loop-turn : goal.invariant-loop-turn
+invariant-loop-turn g l = record {
+  job : l.tree.history.job ≡ l.fn.tree.history.job;
+  budget : l.tree.history.budget ≡ l.budget;
+  driven : IsDriven l.tree.history;
+  run : IsJobRun l.tree.history l.run;
+  put : HasPutOut (text_of l.fn.tree.history.job l.budget) l.put (g.K.Sink.taken l.fn.out) (g.K.Sink.taken l.out);
+  quiet : g.K.Sink.faults l.out ≡ g.K.Sink.faults l.fn.out;
+}

@@ -50,7 +50,7 @@ publish-requires-clause-whole g c =
     (bodies_whole v.history.job v.nodes (state_of v.history) c.args.worker a c.args.inferences c.requires.some c.args.task
     c.keeps_promises.ensures.nodes.placed (stops_here v.history v.nodes a c.args.inferences c.args.task c.requires.stops) c.requires.going c.regions_run_privately.ensures.rest c.tops_are_own.ensures.top bodies mean
     c.requires.start c.keeps_promises.ensures.nodes.next c.stays_legal.ensures c.numbered_trees_are_settled.ensures c.floor_items_stay.ensures.scoped
-    c.settled_segments_bind.ensures.bind c.meant_runs_read.ensures.fit c.requires.out)
+    c.settled_segments_bind.ensures.bind c.extensions_are_unified.ensures.free c.meant_runs_read.ensures.fit c.requires.out)
 
 pub publish-requires-clause-reads : goal.publish-requires-clause-reads
 publish-requires-clause-reads g c =
@@ -63,4 +63,4 @@ publish-requires-clause-reads g c =
     (run_reads v.history.job v.nodes (state_of v.history) c.args.worker a c.args.inferences c.requires.some c.args.task
     c.keeps_promises.ensures.nodes.placed (stops_here v.history v.nodes a c.args.inferences c.args.task c.requires.stops) c.requires.going c.regions_run_privately.ensures.rest c.tops_are_own.ensures.top bodies mean
     c.requires.start c.keeps_promises.ensures.nodes.next c.stays_legal.ensures c.numbered_trees_are_settled.ensures c.floor_items_stay.ensures.scoped
-    c.settled_segments_bind.ensures.bind c.meant_runs_read.ensures.read)
+    c.settled_segments_bind.ensures.bind c.extensions_are_unified.ensures.free c.meant_runs_read.ensures.read)
