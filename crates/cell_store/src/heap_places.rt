@@ -31,11 +31,8 @@ impl HeapPlaces {
     pub(crate) fn new(alloc: Global, code: &Code) -> Result<HeapPlaces, NoMemory>
         ensures { IfOk result (λ p. p ≡ record { program = code.now.places; made = [] }) }
     {
-        let mut all = Vec::new(alloc);
-        let program = code.len();
-        for at in 0..program {
-            all.push(code.place(at))?;
-        }
+        let all = Vec::from_slice(alloc, code.places())?;
+        let program = all.len();
         Ok(HeapPlaces { all, program })
     }
 

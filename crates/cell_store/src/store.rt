@@ -438,7 +438,8 @@ impl Store {
         self.marks[mark].variables as u32
     }
 
-    /// Variables that were there and free at a mark, by the number of marks before it: all of these that were bound since.
+    /// Variables that were there and free at a mark, by the number of marks before it: all of these that were bound since, and maybe
+    /// others that are free again.
     pub fn older_since(&self, mark: usize) -> Result<Vec<u32>, NoMemory>
         requires { mark < length self.now.marks }
         ensures { IfOk result (λ vs. AreOlderSinceMark self.now mark vs.items) }

@@ -79,6 +79,13 @@ impl Code {
         self.places[at]
     }
 
+    /// All places, in order.
+    pub fn places(&self) -> &[Place]
+        ensures { result.now ≡ self.now.places }
+    {
+        &self.places
+    }
+
     /// The name with a number.
     pub fn name(&self, number: u32) -> &Atom
         requires { number < length self.now.names }
