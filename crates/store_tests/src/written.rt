@@ -51,7 +51,14 @@ fn terms_as_they_are_written(rt: HostRuntime) -> Result<(), Fail> {
     write_both_ways(&rt, alloc, &mut store)
 }
 
-/// The goal that unifies a term with a list, by itself, and the same as a store puts it together.
+/// The goal that unifies a term with a list.
+fn goal_by_itself(alloc: Global, term: &FlatTerm, items: &[FlatTerm]) -> Result<FlatTerm, Fail>
+    ensures { IfOk result (λ goal. goal ≡ list_goal term.now items.now) }
+{
+    Ok(binary(alloc, "=", term, &list_of(alloc, items)?)?)
+}
+
+/// That goal by itself, and the same as a store puts it together.
 fn list_goals(
     rt: &impl Abort,
     alloc: Global,
@@ -59,7 +66,7 @@ fn list_goals(
     term: &FlatTerm,
     items: &[FlatTerm],
 ) -> Result<(FlatTerm, FlatTerm), Fail> {
-    let wanted = binary(alloc, "=", term, &list_of(alloc, items)?)?;
+    let wanted = goal_by_itself(alloc, term, items)?;
     assert!(rt; wanted.bound() <= VarNo::from(store.next()));
     let goal = store.list_goal(term, items)?;
     Ok((as_term(store, goal, true)?, wanted))
