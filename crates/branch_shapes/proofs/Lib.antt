@@ -13,3 +13,9 @@ pub mod MeantRunLemmas
 pub mod ShapedBodyLemmas
 pub mod ShapedRunLemmas
 pub mod OutLemmas
+pub mod RestLemmas
+pub mod PlainReadingLemmas
+pub mod RestReadingLemmas
+pub mod PlainItemLemmas
+pub mod CutLemmas
+pub mod FrontLemmas

@@ -11,3 +11,6 @@ pub mod GroupedRuns
 pub mod MeantRuns
 pub mod ShapedBodies
 pub mod ShapedRuns
+pub mod RestBodies
+pub mod CutReadings
+pub mod FrontReadings

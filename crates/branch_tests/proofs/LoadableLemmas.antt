@@ -19,8 +19,8 @@ use Rattle.tree_nodes.specs.Rows.{StoredNode, Rows, row_of_node, node_parent}
 use Rattle.tree_nodes.specs.TreeTables.{stored_body}
 use Rattle.branch_reading.specs.BranchSegments.{above_in_query, own_segments, segments_on, bindings_on, next_number}
 use Rattle.branch_reading.specs.SettledWays.{are_bindings_settled, branch_items, is_branch_settled, is_guard_settled}
-use Rattle.branch_loading.specs.PlacesUp.{IsStepUp, missing_body, body_at}
-use Rattle.branch_loading.specs.TaskLoads.{is_task_at, CanBeLoaded, HasLoadableBranch}
+use Rattle.task_region.specs.PlacesUp.{IsStepUp, missing_body, body_at}
+use Rattle.task_region.specs.TaskLoads.{is_task_at, CanBeLoaded, HasLoadableBranch}
 use Rattle.branch_tests.specs.SettledBranches.{IsBranchSettledAfter}
 
 cond_true : (c : Bool) → cond c true true ≡ true

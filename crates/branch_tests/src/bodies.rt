@@ -3,13 +3,13 @@ use crate::captures::{Bound, Kind, only, take_off, top_of};
 use crate::common::{Top, expect};
 use crate::regions::{fill, region};
 use au_term::NoMemory;
-use branch_publishing::make_bodies;
 use clause_compile::{Branch, Goals, Item, Scope};
 use region_split::Region;
 use std::alloc::Global;
 use std::process::Abort;
 use std::sync::Arc;
 use std::test::Fail;
+use task_publishing::make_bodies;
 use tree_nodes::{NodeBody, NodeKind};
 
 /// What a node is for, where it is for a choice point of a region.

@@ -8,7 +8,7 @@ ghost use Rattle.tree_nodes.specs.Bodies.{body_view};
 ghost use Rattle.tree_nodes.specs.Rows.{node_parent, row_of_node};
 ghost use Rattle.branch_reading.specs.BranchSegments.{bindings_on, segments_on};
 ghost use Rattle.branch_reading.specs.SettledWays.{are_bindings_settled, is_item_settled, is_term_below};
-ghost use Rattle.branch_loading.specs.TaskLoads.{CanBeLoaded, HasLoadableBranch};
+ghost use Rattle.task_region.specs.TaskLoads.{CanBeLoaded, HasLoadableBranch};
 ghost use Rattle.branch_tests.specs.SettledBranches.{IsBranchSettledAfter};
 
 use au_model::laws::unification::unifier_is_most_general;

@@ -2,13 +2,12 @@
 ghost use Rattle.std.specs.Prelude.{◌≡◌, IfOk, OnOk};
 ghost use Rattle.std.specs.Arc.{arc_value};
 ghost use Rattle.tree_model.specs.EventViews.{place_view};
-ghost use Rattle.branch_loading.specs.TaskLoads.{LoadsTask};
+ghost use Rattle.task_region.specs.TaskLoads.{LoadsTask};
 
 use crate::common::{Top, number, top_of_cell, variable};
 use crate::loadable::is_loadable;
 use au_model::build::{atom, binary, unary};
 use au_term::{Binding, Bindings, FlatTerm, Segment, Shared};
-use branch_loading::load_task;
 use branch_reading::query_body;
 use clause_compile::{Clause, Goals, Item, Scope, compile};
 use goal_kinds::GoalKinds;
@@ -17,7 +16,7 @@ use std::alloc::Global;
 use std::process::Abort;
 use std::sync::Arc;
 use std::test::Fail;
-use task_region::{TaskRegion, TaskStop};
+use task_region::{TaskRegion, TaskStop, load_task};
 use tree_model::AltRef;
 use tree_nodes::{NodeBody, Nodes};
 

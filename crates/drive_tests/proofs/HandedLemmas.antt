@@ -1,8 +1,8 @@
 -- What a job is run with stays that of a tree that hands out, or to which what was pruned is given up.
 use Rattle.std.proofs.Common.{◌≡◌, ℕ, Bool, true, false, cond, Option, Some, None, refl, sym, subst}
 use Rattle.public_tree.specs.PublicTrees.{is_going}
-use Rattle.task_serving.specs.JobRuns.{EventsLeaveRuns, IsJobRun}
-use Rattle.task_serving.specs.declared.job_run.JobRun.{JobRun}
+use Rattle.scheduler.specs.JobRuns.{EventsLeaveRuns, IsJobRun}
+use Rattle.scheduler.specs.declared.job_run.JobRun.{JobRun}
 use Rattle.tree_core.specs.HandOuts.{handing_out}
 use Rattle.tree_core.specs.Histories.{History, state_of, while_going, with_event}
 use Rattle.tree_model.specs.Events.{Claim, Resume, Lost}

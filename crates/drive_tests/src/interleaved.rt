@@ -1,6 +1,6 @@
 //! Jobs that several workers run on one tree, whose tasks come back in any order.
 ghost use Rattle.std.specs.Prelude.{◌≡◌, ◌≤◌};
-ghost use Rattle.task_serving.specs.JobRuns.{IsJobRun};
+ghost use Rattle.scheduler.specs.JobRuns.{IsJobRun};
 
 use crate::alike::{job_of, number, run_in_turn, sink};
 use crate::random::random_text;
@@ -11,12 +11,11 @@ use sample_runs::numbers::Numbers;
 use sample_runs::predicates::PREDICATES;
 use sample_runs::programs::PROGRAMS;
 use sample_runs::worlds::WORLD;
-use scheduler::open;
+use scheduler::{JobRun, open};
 use std::alloc::Global;
 use std::marker::Brand;
 use std::process::Abort;
 use std::test::Fail;
-use task_serving::JobRun;
 use text_load::Job;
 use tree_core::{JobBrand, Tree};
 

@@ -1,16 +1,15 @@
 //! What single calls give on the trees of small jobs: what is handed out, what waits, and what is pruned while it is out.
 ghost use Rattle.std.specs.Prelude.{◌≡◌, OnOk};
-ghost use Rattle.task_serving.specs.JobRuns.{IsJobRun};
+ghost use Rattle.scheduler.specs.JobRuns.{IsJobRun};
 
 use crate::alike::job_of;
 use crate::workers::{Seen, Turns, claimed, resumed, serve_one, take_turns};
 use run_model::RunEnding;
-use scheduler::open;
+use scheduler::{JobRun, open};
 use std::alloc::Global;
 use std::marker::Brand;
 use std::process::Abort;
 use std::test::Fail;
-use task_serving::JobRun;
 use text_load::Job;
 use tree_core::{JobBrand, Tree};
 use tree_model::AltRef;

@@ -4,12 +4,12 @@ ghost use Rattle.std.specs.List.{list_any};
 ghost use Rattle.tree_model.specs.EventViews.{place_view};
 ghost use Rattle.tree_model.specs.Legality.{is_task};
 ghost use Rattle.tree_core.specs.Histories.{state_of};
-ghost use Rattle.task_serving.specs.JobRuns.{IsJobRun};
+ghost use Rattle.scheduler.specs.JobRuns.{IsJobRun};
 
+use scheduler::laws::events_leave_runs;
+use scheduler::{Demand, JobRun, serve};
 use std::alloc::Global;
 use std::test::Fail;
-use task_serving::laws::events_leave_runs;
-use task_serving::{Demand, JobRun, serve};
 use tree_core::{JobBrand, Tree};
 use tree_model::AltRef;
 

@@ -20,13 +20,13 @@ use Rattle.branch_reading.specs.NumberedReadings.{NumberedTreesAreSettled}
 use Rattle.branch_reading.specs.Readings.{items_meant, or_nothing, reading}
 use Rattle.branch_reading.specs.SettledWays.{items_on}
 use Rattle.branch_shapes.specs.FloorItems.{NamesLevels, ScopedItemsNameLevels}
-use Rattle.branch_steps.specs.CutReadings.{IsPlainOn}
-use Rattle.branch_steps.specs.RestBodies.{items_behind}
-use Rattle.branch_steps.proofs.PlainItemLemmas.{behind, high, names_left}
-use Rattle.branch_steps.proofs.PlainReadingLemmas.{bound_continuation, plain_reading}
-use Rattle.branch_steps.proofs.RestReadingLemmas.{items_settled}
-use Rattle.ball_landing.specs.BranchLandings.{height_of_mark, IsMarkOver}
-use Rattle.ball_landing.specs.Landings.{innermost_catch}
+use Rattle.branch_shapes.specs.CutReadings.{IsPlainOn}
+use Rattle.branch_shapes.specs.RestBodies.{items_behind}
+use Rattle.branch_shapes.proofs.PlainItemLemmas.{behind, high, names_left}
+use Rattle.branch_shapes.proofs.PlainReadingLemmas.{bound_continuation, plain_reading}
+use Rattle.branch_shapes.proofs.RestReadingLemmas.{items_settled}
+use Rattle.task_stops.specs.BranchLandings.{height_of_mark, IsMarkOver}
+use Rattle.task_stops.specs.Landings.{innermost_catch}
 use Rattle.task_world.specs.FrontItems.{HasLeft}
 use Rattle.task_world.proofs.SpotLemmas.{is_plain, plain_below}
 

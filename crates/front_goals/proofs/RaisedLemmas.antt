@@ -22,15 +22,15 @@ use Rattle.public_tree.specs.Answering.{FallsAs, ReadsAsRaised, taken_as}
 use Rattle.branch_reading.specs.NumberedReadings.{NumberedTreesAreSettled}
 use Rattle.branch_reading.specs.Readings.{reading}
 use Rattle.branch_reading.specs.SettledWays.{items_on}
-use Rattle.branch_loading.specs.PlacesUp.{AreAllUp, PlacesAreLevels, items_at_place}
-use Rattle.branch_loading.proofs.AtPlaceLemmas.{items_at}
+use Rattle.task_region.specs.PlacesUp.{AreAllUp, PlacesAreLevels, items_at_place}
+use Rattle.task_region.proofs.AtPlaceLemmas.{items_at}
 use Rattle.branch_shapes.specs.FloorItems.{ScopedItemsNameLevels}
 use Rattle.branch_shapes.proofs.OutLemmas.{IsOutAt, out_at}
-use Rattle.branch_steps.specs.RestBodies.{items_behind}
-use Rattle.ball_landing.specs.FoundLandings.{LandsBall}
-use Rattle.ball_landing.specs.LandingBodies.{IsLandingBody, LandingsRead, ReadsAsLanded, left_by_ball}
-use Rattle.ball_landing.specs.Landings.{innermost_catch, landing}
-use Rattle.ball_landing.specs.declared.landing.BallLanding.{BallLanding}
+use Rattle.branch_shapes.specs.RestBodies.{items_behind}
+use Rattle.task_stops.specs.FoundLandings.{LandsBall}
+use Rattle.task_stops.specs.LandingBodies.{IsLandingBody, LandingsRead, ReadsAsLanded, left_by_ball}
+use Rattle.task_stops.specs.Landings.{innermost_catch, landing}
+use Rattle.task_stops.specs.declared.landing.BallLanding.{BallLanding}
 use Rattle.front_goals.specs.RaisedBalls.{RaisesNext, RaisesThere}
 use Rattle.front_goals.proofs.NextLemmas.{first_is, marks_over}
 

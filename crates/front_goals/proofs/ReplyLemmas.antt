@@ -17,7 +17,7 @@ use Rattle.tree_model.specs.Levels.{Level, Place, Spot, levels_of}
 use Rattle.tree_model.specs.Nodes.{WorldGate}
 use Rattle.tree_model.specs.TreeStates.{TreeState}
 use Rattle.branch_reading.specs.Readings.{reading}
-use Rattle.branch_steps.specs.FrontReadings.{OnceLeaves}
+use Rattle.branch_shapes.specs.FrontReadings.{OnceLeaves}
 use Rattle.public_tree.specs.Answering.{AtFront, HaltsAs, is_first_at}
 use Rattle.public_tree.specs.PublicTrees.{is_going}
 use Rattle.region_split.specs.Regions.{RegionView}

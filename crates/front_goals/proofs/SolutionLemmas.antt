@@ -22,17 +22,17 @@ use Rattle.branch_reading.specs.BranchSegments.{next_number, segments_on}
 use Rattle.branch_reading.specs.NumberedReadings.{NumberedTreesAreSettled}
 use Rattle.branch_reading.specs.Readings.{reading}
 use Rattle.branch_reading.specs.SettledWays.{items_on}
-use Rattle.branch_loading.specs.TaskLoads.{IsBoundOnBranch}
+use Rattle.task_region.specs.TaskLoads.{IsBoundOnBranch}
 use Rattle.branch_shapes.specs.FloorItems.{ScopedItemsNameLevels}
-use Rattle.branch_steps.specs.CutReadings.{IsPlainOn}
-use Rattle.branch_steps.specs.RestBodies.{IsRestBody, items_behind, quiet_segment}
+use Rattle.branch_shapes.specs.CutReadings.{IsPlainOn}
+use Rattle.branch_shapes.specs.RestBodies.{IsRestBody, items_behind, quiet_segment}
 use Rattle.interleaving.proofs.EntryLemmas.{length-floor, own_height}
 use Rattle.public_tree.specs.Answering.{AtFront, GoesOnAs, ReadsAsLeft, taken_as}
 use Rattle.region_split.specs.Regions.{RegionView}
 use Rattle.region_split.specs.Solutions.{SolutionView}
 use Rattle.region_split.specs.SolutionTrials.{AreSolutionsHere}
 use Rattle.region_split.specs.StackOperations.{solution_here}
-use Rattle.task_closing.proofs.QuietLemmas.{BranchLaws}
+use Rattle.task_stops.proofs.QuietLemmas.{BranchLaws}
 use Rattle.task_world.specs.FrontSteps.{LeavesBehind}
 use Rattle.task_world.proofs.BranchLemmas.{got_or, rest_on}
 use Rattle.task_world.proofs.SpotLemmas.{at}

@@ -26,19 +26,19 @@ use Rattle.branch_bindings.proofs.ExtendedUnifierLemmas.{unifiers_are_final}
 use Rattle.branch_reading.specs.BranchSegments.{binding_equations, bindings_on, bound_by, next_number, segments_on}
 use Rattle.branch_reading.specs.Readings.{items_meant, named_of, or_nothing, query_on, reading}
 use Rattle.branch_reading.specs.SettledWays.{is_branch_settled, is_item_settled, is_term_below, is_way_settled, items_on}
-use Rattle.branch_loading.specs.TaskLoads.{IsBoundOnBranch}
-use Rattle.branch_publishing.proofs.GoalLemmas.{settled_more}
+use Rattle.task_region.specs.TaskLoads.{IsBoundOnBranch}
+use Rattle.task_publishing.proofs.GoalLemmas.{settled_more}
 use Rattle.branch_shapes.specs.ExtendedWays.{WayBinds, BranchLeadsOn, continuation_of, number_after}
 use Rattle.branch_shapes.specs.FloorItems.{NamesLevels}
-use Rattle.branch_steps.specs.RestBodies.{items_behind, quiet_segment}
-use Rattle.branch_steps.proofs.PlainItemLemmas.{back, high, names_left, round}
-use Rattle.branch_steps.proofs.RestReadingLemmas.{items_settled, segments_settled}
+use Rattle.branch_shapes.specs.RestBodies.{items_behind, quiet_segment}
+use Rattle.branch_shapes.proofs.PlainItemLemmas.{back, high, names_left, round}
+use Rattle.branch_shapes.proofs.RestReadingLemmas.{items_settled, segments_settled}
 use Rattle.region_split.specs.Regions.{RegionView}
 use Rattle.region_split.specs.Solutions.{SolutionView}
 use Rattle.region_split.specs.SolutionTrials.{AreSolutionsHere}
 use Rattle.region_split.specs.StackOperations.{IsSolutionHere, solution_here}
 use Rattle.region_split.proofs.TrialLemmas.{resolved_twice, items_twice, named_twice}
-use Rattle.task_closing.proofs.QuietLemmas.{BranchLaws}
+use Rattle.task_stops.proofs.QuietLemmas.{BranchLaws}
 use Rattle.front_goals.specs.SolutionBranches.{AreSolutionBranches, IsSolutionBranch, clause_removal}
 
 -- what is left behind a settled branch's first goal is settled

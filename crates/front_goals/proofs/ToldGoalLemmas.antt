@@ -5,7 +5,7 @@ use Rattle.au_term.specs.Term.{Term}
 use Rattle.au_model.specs.Terms.Named.{NamedTerm}
 use Rattle.au_model.specs.Terms.Substitutions.{Substitution}
 use Rattle.binding_array.specs.declared.cell.BindingCell.{BindingCell}
-use Rattle.branch_loading.specs.TaskLoads.{run_on_branch, StartsOnBranch}
+use Rattle.task_region.specs.TaskLoads.{run_on_branch, StartsOnBranch}
 use Rattle.branch_reading.specs.Readings.{named_of, query_on, reading}
 use Rattle.cell_store.specs.StoreView.{IsComposition, IsValidStore, meaning, text_in}
 use Rattle.region_control.specs.declared.control.GoalPlace.{GoalPlace}

@@ -16,7 +16,7 @@ use Rattle.tree_model.specs.Nodes.{WorldGate}
 use Rattle.tree_model.specs.TreeStates.{TreeState}
 use Rattle.tree_nodes.specs.Bodies.{Branching}
 use Rattle.tree_nodes.specs.TreeTables.{NodesView, IsWayTo}
-use Rattle.branch_loading.specs.TaskLoads.{IsBoundOnBranch}
+use Rattle.task_region.specs.TaskLoads.{IsBoundOnBranch}
 use Rattle.public_tree.specs.Answering.{taken_as}
 use Rattle.region_split.specs.Regions.{RegionView}
 use Rattle.region_split.specs.Solutions.{SolutionView}

@@ -7,7 +7,7 @@ use Rattle.clause_compile.specs.declared.event.Branch.{Branch}
 use Rattle.clause_compile.specs.declared.item.Item.{Item}
 use Rattle.clause_compile.specs.declared.item.Item.TheVariants.{Remove}
 use Rattle.clause_compile.specs.declared.item.Scope.TheVariants.{Node}
-use Rattle.branch_steps.specs.RestBodies.{quiet_segment}
+use Rattle.branch_shapes.specs.RestBodies.{quiet_segment}
 use Rattle.region_split.specs.Regions.{RegionView}
 use Rattle.region_split.specs.Solutions.{SolutionView}
 use Rattle.region_split.specs.StackOperations.{solution_here}

@@ -10,7 +10,7 @@ ghost use Rattle.front_goals.specs.RepliesNext.{IsBoundThere, TellsNext};
 use crate::balls::raise_at_front;
 use crate::solutions::solve_at_front;
 use au_term::NoMemory;
-use branch_steps::laws::fronts_are_read;
+use branch_shapes::step_laws::fronts_are_read;
 use region_split::{Position, Region, Text};
 use region_world::WorldAnswer;
 use std::alloc::Global;

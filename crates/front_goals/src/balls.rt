@@ -7,14 +7,14 @@ ghost use Rattle.task_world.specs.FrontSteps.{ComesAbout};
 ghost use Rattle.front_goals.specs.RaisedBalls.{RaisesThere};
 
 use au_term::{FlatTerm, NoMemory};
-use ball_landing::land_ball;
-use ball_landing::laws::{landings_read, outs_can_land_balls};
-use branch_loading::laws::places_are_levels;
 use branch_reading::laws::numbered_trees_are_settled;
 use branch_shapes::laws::floor_items_stay;
 use region_split::Text;
 use std::alloc::Global;
 use std::sync::Arc;
+use task_region::branch_laws::places_are_levels;
+use task_stops::land_ball;
+use task_stops::landing_laws::{landings_read, outs_can_land_balls};
 use task_world::FrontStep;
 use tree_core::{JobBrand, Tree};
 use tree_model::AltRef;

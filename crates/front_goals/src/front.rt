@@ -4,7 +4,7 @@ ghost use Rattle.effect_gate.specs.Effects.{statics_of, world_meant};
 ghost use Rattle.run_model.specs.Goals.Worlds.{static_among};
 ghost use Rattle.tree_model.specs.EventViews.{place_view};
 ghost use Rattle.tree_model.specs.Legality.{taken_at};
-ghost use Rattle.branch_loading.specs.TaskLoads.{StartsOnBranch};
+ghost use Rattle.task_region.specs.TaskLoads.{StartsOnBranch};
 ghost use Rattle.tree_core.specs.Histories.{state_of};
 ghost use Rattle.task_region.specs.declared.running.TaskStop.TheVariants.{World as WorldStop};
 ghost use Rattle.task_world.specs.FrontSteps.{ComesAbout, IsBarredBy, IsWorldAfter};

@@ -1,3 +1,12 @@
+mod EventLemmas
+mod RunLemmas
+mod BackLemmas
+mod TaskLemmas
+mod FrontLemmas
+mod EndLemmas
+mod NameLemmas
+mod CloseLemmas
+mod FirstLemmas
 mod PieceLemmas
 mod TurnLemmas
 mod EndingLemmas

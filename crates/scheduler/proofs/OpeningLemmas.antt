@@ -9,8 +9,8 @@ use Rattle.effect_gate.specs.declared.world.World.{World as KeptWorld}
 use Rattle.text_load.specs.JobView.{AreStatics}
 use Rattle.tree_model.specs.TreeStates.{queries_after}
 use Rattle.tree_core.specs.Histories.{History}
-use Rattle.task_serving.specs.JobRuns.{IsJobRun}
-use Rattle.task_serving.specs.declared.job_run.JobRun.{JobRun}
+use Rattle.scheduler.specs.JobRuns.{IsJobRun}
+use Rattle.scheduler.specs.declared.job_run.JobRun.{JobRun}
 
 -- the history of a tree that was just opened
 abbrev pub opened : Job → ℕ → ℕ → History

@@ -10,9 +10,9 @@ use Rattle.tree_core.specs.HandOuts.{offered_at}
 use Rattle.tree_core.specs.Histories.{History, state_of}
 use Rattle.tree_core.specs.TasksOut.{out_after}
 use Rattle.hand_out_laws.specs.HandedBack.{hands_out, gives_back, is_stop, OneGoesOut, OneComesBack, OnlyStopsStop}
-use Rattle.task_serving.specs.GivenBack.{IsGivenBack, leaves_world}
-use Rattle.task_serving.specs.JobRuns.{EventsLeaveRuns, IsJobRun}
-use Rattle.task_serving.specs.declared.job_run.JobRun.{JobRun}
+use Rattle.scheduler.specs.GivenBack.{IsGivenBack, leaves_world}
+use Rattle.scheduler.specs.JobRuns.{EventsLeaveRuns, IsJobRun}
+use Rattle.scheduler.specs.declared.job_run.JobRun.{JobRun}
 use Rattle.scheduler.specs.Driving.{GoesOut, IsDriven}
 
 -- while a tree goes on, what is not offered is not there

@@ -1,3 +1,9 @@
+pub mod JobRuns
+pub mod GivenBack
+pub mod StoppedTasks
+pub mod FrontTurns
+pub mod QueryNames
+pub mod QueriesLeft
 pub mod Driving
 pub mod Endings
 pub mod Pieces

@@ -2,20 +2,20 @@
 ghost use Rattle.std.specs.Prelude.{◌≡◌, ◌≢◌, ◌≤◌};
 ghost use Rattle.au_io.specs.FaultCounts.{Increased};
 ghost use Rattle.stack_run.specs.RunEnds.{IsRun};
-ghost use Rattle.task_serving.specs.JobRuns.{IsJobRun};
+ghost use Rattle.scheduler.specs.JobRuns.{IsJobRun};
 ghost use Rattle.scheduler.specs.Driving.{IsDriven};
 ghost use Rattle.scheduler.specs.Endings.{ClosesFrom};
 
-use crate::ending::{cut_short, end_of};
+use crate::JobRun;
 use crate::opening::open;
 use crate::pieces::{PIECE, put_on};
+use crate::run_ending::{cut_short, end_of};
 use crate::turns::turn;
 use au_io::Sink;
 use hand_out_laws::laws::only_stops_stop;
 use run_model::{RunEnd, RunEnding};
 use std::alloc::Global;
 use std::marker::Brand;
-use task_serving::JobRun;
 use text_load::Job;
 use tree_core::{JobBrand, Tree};
 
@@ -47,7 +47,7 @@ fn drive_job<J: JobBrand, K: Sink>(
     ensures faults_stay { K.faults out.old ≤ K.faults out.new }
 {
     match open::<J>(alloc, job, budget, window) {
-        Ok((tree, run)) => drive_on(alloc, tree, run, budget, out),
+        Ok((mut tree, mut run)) => drive_on(alloc, &mut tree, &mut run, budget, out),
         Err(_) => cut_short(RunEnding::NoMemory),
     }
 }
@@ -55,28 +55,26 @@ fn drive_job<J: JobBrand, K: Sink>(
 /// The same from where the tree stands.
 fn drive_on<J: JobBrand, K: Sink>(
     alloc: Global,
-    tree: Tree<J>,
-    run: JobRun,
+    tree: &mut Tree<J>,
+    run: &mut JobRun,
     budget: u64,
     out: &mut K,
 ) -> RunEnd
-    requires budget { tree.history.budget ≡ budget }
-    requires driven { IsDriven tree.history }
-    requires run { IsJobRun tree.history run }
-    ensures run { IsRun tree.history.job budget (K.taken out.old) (K.taken out.new) result }
+    requires budget { tree.old.history.budget ≡ budget }
+    requires driven { IsDriven tree.old.history }
+    requires run { IsJobRun tree.old.history run.old }
+    ensures run { IsRun tree.old.history.job budget (K.taken out.old) (K.taken out.new) result }
     ensures fault { result.end ≡ RunEnding.WriteFault → Increased (K.faults out.old) (K.faults out.new) }
     ensures quiet { result.end ≢ RunEnding.WriteFault → K.faults out.new ≡ K.faults out.old }
     ensures faults_stay { K.faults out.old ≤ K.faults out.new }
 {
     only_stops_stop();
-    let mut tree = tree;
-    let mut run = run;
     let mut put = 0;
     for _turn in 0..u64::MAX {
-        if let Some(end) = end_of(&tree, budget) {
+        if let Some(end) = end_of(tree, budget) {
             return close(&run.world.out, put, end, out);
         }
-        let Ok(()) = turn(&mut tree, &mut run, alloc, budget) else {
+        let Ok(()) = turn(tree, run, alloc, budget) else {
             return cut_short(RunEnding::NoMemory);
         };
         // The proof reads off that what was written is a front of the job's text.

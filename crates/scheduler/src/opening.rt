@@ -1,17 +1,17 @@
 //! Trees that are opened for a job.
 ghost use Rattle.std.specs.Prelude.{◌≡◌, [], IfOk};
 ghost use Rattle.tree_core.specs.Openings.{IsFirstOf};
-ghost use Rattle.task_serving.specs.JobRuns.{IsJobRun};
+ghost use Rattle.scheduler.specs.JobRuns.{IsJobRun};
 ghost use Rattle.scheduler.specs.Driving.{IsDriven};
 
+use crate::JobRun;
 use au_term::NoMemory;
 use effect_gate::World;
 use goal_kinds::GoalKinds;
 use region_split::Text;
 use std::alloc::Global;
 use std::sync::Arc;
-use task_queries::query_goals;
-use task_serving::JobRun;
+use task_world::query_goals;
 use text_load::{Job, JobParts, Query};
 use tree_core::{JobBrand, QueryGoals, Tree};
 

@@ -5,15 +5,15 @@ ghost use Rattle.tree_model.specs.Legality.{taken_at};
 ghost use Rattle.public_tree.specs.PublicTrees.{is_going};
 ghost use Rattle.tree_core.specs.Histories.{state_of};
 ghost use Rattle.tree_core.specs.TasksOut.{out_after};
-ghost use Rattle.task_serving.specs.GivenBack.{IsSameJob};
-ghost use Rattle.task_serving.specs.JobRuns.{IsJobRun};
+ghost use Rattle.scheduler.specs.GivenBack.{IsSameJob};
+ghost use Rattle.scheduler.specs.JobRuns.{IsJobRun};
 ghost use Rattle.scheduler.specs.Driving.{GoesOut, IsDriven};
 
+use crate::laws::events_leave_runs;
+use crate::{JobRun, NoDemand, serve};
 use au_term::NoMemory;
 use hand_out_laws::laws::{all_is_back, out_and_back};
 use std::alloc::Global;
-use task_serving::laws::events_leave_runs;
-use task_serving::{JobRun, NoDemand, serve};
 use tree_core::{JobBrand, Tree};
 use tree_model::AltRef;
 

@@ -32,15 +32,15 @@ use Rattle.branch_reading.specs.BranchSegments.{above_in_query, own_segments, bi
 use Rattle.branch_reading.specs.Readings.{items_meant, named_of, query_on}
 use Rattle.branch_reading.specs.SettledWays.{branch_items, is_item_settled, is_term_below, items_on, is_way_settled}
 use Rattle.branch_bindings.specs.ExtensionLaws.{UnifiersStandForOlder, UnifiersAreFinal}
-use Rattle.branch_loading.specs.PlacesUp.{AreAllUp, PlacesAreLevels}
+use Rattle.task_region.specs.PlacesUp.{AreAllUp, PlacesAreLevels}
 use Rattle.branch_shapes.specs.FloorItems.{items_over_floor}
-use Rattle.branch_publishing.specs.LiveChoices.{IsBoundAtStart}
-use Rattle.branch_publishing.specs.PublishedRuns.{IsDeferredAt, MeanPublished, published_entry}
+use Rattle.task_publishing.specs.LiveChoices.{IsBoundAtStart}
+use Rattle.task_publishing.specs.PublishedRuns.{IsDeferredAt, MeanPublished, published_entry}
 use Rattle.region_capture.specs.CapturedRegions.{CapturesRegion, IsCaptureFloor, bound_at}
 use Rattle.region_capture.specs.declared.captured.Captured.{Captured}
 use Rattle.region_capture.specs.declared.captured.CapturedKind.TheVariants.{Choice}
 use Rattle.task_publishing.specs.OwnEntries.{IsOverEnds, placement_of, StandsForOwn, AreTakenOff, OwnEntriesAreTaken, OwnEntriesAreOverFloor}
-use Rattle.branch_loading.specs.TaskLoads.{IsBoundOnBranch}
+use Rattle.task_region.specs.TaskLoads.{IsBoundOnBranch}
 use Rattle.task_publishing.specs.OwnBodies.{HasOwn, HasSomeOwn, IsTakenOffTask, IsBranchAt, CanBePublished, MeanOwn, MeanFromStart, MeanTask, AreNumbersUp}
 use Rattle.task_publishing.proofs.NodesDownLemmas.{numbers, nodes_down}
 

@@ -9,7 +9,7 @@ use Rattle.region_capture.specs.CapturedChoices.{MeantChoice, group_entries, mea
 use Rattle.branch_shapes.specs.Groups.{Groups, stacked, entries_in, height_kept}
 use Rattle.branch_shapes.specs.ChoiceScopes.{choice_height}
 use Rattle.branch_shapes.proofs.ChoiceScopeLemmas.{low_height, high_height}
-use Rattle.branch_publishing.proofs.WholeLemmas.{reverse-cons, turned}
+use Rattle.task_publishing.proofs.WholeLemmas.{reverse-cons, turned}
 
 pub entries_more : (gs : Groups) (g : List Entry) → entries_in (gs ++ g ∷ []) ≡ entries_in gs + length g
 entries_more [] g = omega arith

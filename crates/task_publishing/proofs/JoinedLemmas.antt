@@ -16,7 +16,7 @@ use Rattle.branch_reading.specs.Readings.{items_meant}
 use Rattle.branch_shapes.specs.ChoiceScopes.{choice_height, items_by_heights, HasNumbersUpTo}
 use Rattle.branch_shapes.specs.FloorItems.{items_over_floor}
 use Rattle.branch_shapes.specs.Groups.{Groups}
-use Rattle.branch_publishing.specs.PublishedRuns.{published_continuation, published_entry, published_group}
+use Rattle.task_publishing.specs.PublishedRuns.{published_continuation, published_entry, published_group}
 use Rattle.region_capture.specs.CapturedMeanings.{MeantAlternative, meant_continuation, meant_entry}
 use Rattle.region_capture.specs.CapturedChoices.{MeantChoice, group_entries}
 use Rattle.region_capture.specs.declared.captured.CapturedKind.{CapturedKind}

@@ -1,3 +1,15 @@
+pub mod TableLemmas
+pub mod ScopeLemmas
+pub mod MadeLemmas
+pub mod LiveLemmas
+pub mod GoalLemmas
+pub mod BranchMeaningLemmas
+pub mod RunLemmas
+pub mod BodyMeaningLemmas
+pub mod ChainLemmas
+pub mod WholeLemmas
+pub mod AllLemmas
+pub mod FinalLemmas
 mod HeightLemmas
 mod JoinedLemmas
 mod FloorEndLemmas
@@ -6,6 +18,6 @@ mod NodesDownLemmas
 mod BodyLemmas
 pub mod StoppedLemmas
 mod SpotLemmas
-mod RunLemmas
+mod TaskRunLemmas
 pub mod TaskLemmas
 pub mod JobLemmas

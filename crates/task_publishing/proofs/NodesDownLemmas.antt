@@ -3,9 +3,9 @@ use Rattle.std.proofs.Common.{◌≡◌, ℕ, suc, ◌<◌, cond, List, [], ◌�
 use Rattle.au_term.proofs.LogicLemmas.{not_equal, number_same}
 use Rattle.tree_model.specs.Floors.{node_of}
 use Rattle.tree_model.specs.Levels.{Level, Place, place_at}
-use Rattle.branch_publishing.specs.KeptScopes.{AreNodesDown}
-use Rattle.branch_publishing.proofs.TableLemmas.{more_got}
-use Rattle.branch_publishing.proofs.WholeLemmas.{reverse-cons}
+use Rattle.task_publishing.specs.KeptScopes.{AreNodesDown}
+use Rattle.task_publishing.proofs.TableLemmas.{more_got}
+use Rattle.task_publishing.proofs.WholeLemmas.{reverse-cons}
 
 abbrev pub numbers : List Level → List ℕ
 numbers levels = reverse (map (λ (p : Place). p.node) (map place_at levels))

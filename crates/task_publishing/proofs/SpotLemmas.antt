@@ -34,7 +34,7 @@ use Rattle.branch_reading.specs.BranchSegments.{binding_equations, bindings_on, 
 use Rattle.branch_reading.specs.NumberedReadings.{IsEndOn, IsSettledReading, NumberedTreesAreSettled}
 use Rattle.branch_reading.specs.Readings.{guard_meant, continuation_on, items_meant, named_of, or_nothing, query_on, reading}
 use Rattle.branch_reading.specs.SettledWays.{are_segments_settled, is_way_settled, items_on}
-use Rattle.branch_loading.proofs.LoadLemmas.{reads_settled, settled_bindings}
+use Rattle.task_region.proofs.BranchLoadLemmas.{reads_settled, settled_bindings}
 use Rattle.branch_shapes.specs.FloorItems.{NamesLevels, ScopedItemsNameLevels}
 use Rattle.branch_shapes.proofs.OutLemmas.{IsOutAt, out_at, IsAwakeOn, awake_at, end_read, names_back}
 use Rattle.interleaving.proofs.LegalLemmas.{end_rests}

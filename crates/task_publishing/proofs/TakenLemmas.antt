@@ -30,10 +30,10 @@ use Rattle.branch_shapes.specs.ChoiceScopes.{choice_height, items_by_heights, Is
 use Rattle.branch_shapes.specs.FloorItems.{NamesLevels, items_over_floor, FloorItemsStay}
 use Rattle.branch_shapes.specs.Groups.{Groups, stacked}
 use Rattle.branch_shapes.specs.MeantBranches.{Placement}
-use Rattle.branch_publishing.specs.MadeBodies.{published_kind}
-use Rattle.branch_publishing.specs.PublishedRuns.{EndsDeferred, CanBeBranch, IsTakenOff, published_entry}
-use Rattle.branch_publishing.proofs.WholeLemmas.{turned}
-use Rattle.branch_publishing.proofs.FinalLemmas.{each_turned}
+use Rattle.task_publishing.specs.MadeBodies.{published_kind}
+use Rattle.task_publishing.specs.PublishedRuns.{EndsDeferred, CanBeBranch, IsTakenOff, published_entry}
+use Rattle.task_publishing.proofs.WholeLemmas.{turned}
+use Rattle.task_publishing.proofs.FinalLemmas.{each_turned}
 use Rattle.region_capture.specs.CapturedItems.{ItemLists, IsItemOver}
 use Rattle.region_capture.specs.CapturedMeanings.{MeantAlternative, MeansAlternative, AreMeant, IsKindBelow, meant_entry, meant_continuation}
 use Rattle.region_capture.specs.CapturedChoices.{BoundThen, MeantChoice, group_entries, IsAloneOf, bound_under, CaptureChoices, meant_entries, AreHeightsOf, IsGuardOver, MarksGuard, MarkGuards}

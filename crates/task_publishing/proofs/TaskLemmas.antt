@@ -19,7 +19,7 @@ use Rattle.tree_nodes.proofs.PlaceLemmas.{taken_out}
 use Rattle.tree_core.specs.Brands.{no_job}
 use Rattle.branch_reading.specs.Readings.{named_of, query_on}
 use Rattle.branch_reading.specs.SettledWays.{items_on}
-use Rattle.branch_loading.specs.TaskLoads.{run_on_branch, IsBoundOnBranch}
+use Rattle.task_region.specs.TaskLoads.{run_on_branch, IsBoundOnBranch}
 use Rattle.task_publishing.specs.OwnBodies.{HasSomeOwn}
 use Rattle.task_publishing.specs.TaskRuns.{StopsThere, LoadedTasksStop, StoppedTasksRunOn, StoppedTasksHaveOwn, TasksStayOnBranches}
 use Rattle.task_publishing.proofs.StoppedLemmas.{ComesToRest, come_to_rest, no_next}

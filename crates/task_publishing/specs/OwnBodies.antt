@@ -21,8 +21,8 @@ use Rattle.tree_nodes.specs.TreeTables.{NodesView, IsTableOf, IsWayTo}
 use Rattle.branch_reading.specs.BranchSegments.{segments_on, next_number}
 use Rattle.branch_reading.specs.Readings.{items_meant, named_of, query_on}
 use Rattle.branch_reading.specs.SettledWays.{items_on, is_way_settled}
-use Rattle.branch_loading.specs.PlacesUp.{AreAllUp}
-use Rattle.branch_loading.specs.TaskLoads.{IsBoundOnBranch}
+use Rattle.task_region.specs.PlacesUp.{AreAllUp}
+use Rattle.task_region.specs.TaskLoads.{IsBoundOnBranch}
 use Rattle.branch_shapes.specs.FloorItems.{NamesLevels, items_over_floor}
 use Rattle.branch_shapes.specs.Groups.{Groups, stacked}
 use Rattle.branch_shapes.specs.MeantRuns.{MeanRun, placement_at}

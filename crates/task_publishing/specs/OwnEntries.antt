@@ -17,7 +17,7 @@ use Rattle.branch_reading.specs.Readings.{items_meant}
 use Rattle.branch_shapes.specs.FloorItems.{NamesLevels, items_over_floor}
 use Rattle.branch_shapes.specs.Groups.{Groups, stacked}
 use Rattle.branch_shapes.specs.MeantBranches.{Placement}
-use Rattle.branch_publishing.specs.PublishedRuns.{IsTakenOff, published_entry}
+use Rattle.task_publishing.specs.PublishedRuns.{IsTakenOff, published_entry}
 use Rattle.region_capture.specs.CapturedMeanings.{MeantAlternative}
 use Rattle.region_capture.specs.CapturedChoices.{BoundThen, MeantChoice}
 use Rattle.region_capture.specs.CapturedRegions.{CapturesRegion, IsCaptureFloor, bound_at}

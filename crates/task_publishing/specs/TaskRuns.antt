@@ -11,7 +11,7 @@ use Rattle.tree_nodes.specs.Rows.{cell_at}
 use Rattle.tree_nodes.specs.TreeTables.{NodesView, IsTableOf, IsWayTo, Stand}
 use Rattle.tree_core.specs.Histories.{History, while_going}
 use Rattle.branch_reading.specs.Readings.{named_of, query_on}
-use Rattle.branch_loading.specs.TaskLoads.{run_on_branch, LoadsTask, StartsOnBranch}
+use Rattle.task_region.specs.TaskLoads.{run_on_branch, LoadsTask, StartsOnBranch}
 use Rattle.task_region.specs.TaskViews.{TaskView}
 use Rattle.task_region.specs.TaskStops.{LeavesNext, StopsTask, RunsTask}
 use Rattle.task_region.specs.declared.running.TaskRan.{TaskRan}

@@ -1,81 +1,133 @@
-//! Bodies of what a task has left.
-ghost use Rattle.std.specs.Prelude.{IfOk, IsSome};
-ghost use Rattle.tree_model.specs.EventViews.{place_view};
-ghost use Rattle.tree_nodes.specs.Rows.{cell_at, row_of_node};
+//! Bodies of nodes, made of choice points that have alternatives left.
+ghost use Rattle.std.specs.Prelude.{◌≡◌, ◌∷◌, [], IfOk};
+ghost use Rattle.std.specs.Arc.{arc_value};
+ghost use Rattle.tree_nodes.specs.Bodies.{body_view, kind_view};
 ghost use Rattle.public_tree.specs.Publishing.{bodies_view};
-ghost use Rattle.task_publishing.specs.OwnBodies.{AreNumbersUp, HasSomeOwn, IsBranchAt, IsTakenOffTask, MeanTask};
+ghost use Rattle.task_publishing.specs.MadeBodies.{IsBodyOf, IsLeading, AreBodiesOf, IsAloneBody, MakeBodies, published_kind};
 
-use crate::laws::own_entries_are_taken;
-use au_term::{NoMemory, VarNo};
-use branch_bindings::laws::unifiers_are_final;
-use branch_loading::laws::places_are_levels;
-use branch_loading::places_up;
-use branch_publishing::make_bodies;
-use clause_compile::Goals;
-use region_capture::{Captured, capture};
+use crate::branches::{branch_of, branches_of};
+use crate::steps::{Lead, LiveChoice, LiveChoices, joined};
+use au_term::{Bindings, NoMemory, Segment, VarNo};
+use clause_compile::{Branch, Goals};
+use region_capture::{CapturedAlternative, CapturedKind};
 use std::alloc::Global;
 use std::sync::Arc;
-use task_region::TaskRegion;
-use tree_model::AltRef;
-use tree_nodes::{NodeBody, Nodes};
+use tree_nodes::{NodeBody, NodeKind};
 
-/// Bodies, the outermost first, of the own entries that the task of an alternative has left, with what it had deferred in the place of
-/// what stands for that.
-pub fn bodies_of_task(
-    nodes: &Nodes,
-    at: AltRef,
+/// The bodies of choice points, the outermost first, by the goals of each number of items: the first branch of each leads to the
+/// next one, and that of the last is what is left to do of an alternative. It is alone in a body where there is no choice point.
+pub(crate) fn bodies_of(
     alloc: Global,
-    task: TaskRegion,
+    live: LiveChoices,
+    current: CapturedAlternative,
+    goals: &[Goals],
 ) -> Result<Vec<Arc<NodeBody>>, NoMemory>
-    requires there { IsSome (cell_at nodes.now.rows (place_view at)) }
-    requires going { IsSome task.next }
-    requires own { HasSomeOwn task }
-    ensures { IfOk result (λ bodies. MeanTask nodes.now (place_view at) task (bodies_view bodies.items)) }
+    ensures { IfOk result (λ bodies. MakeBodies goals.now live current (bodies_view bodies.items)) }
 {
-    own_entries_are_taken();
-    unifiers_are_final();
-    places_are_levels();
-    let numbers = numbers_up(nodes, at, alloc)?;
-    let captured = take_off(task, alloc)?;
-    let (goals, base) = left_at(nodes, at)?;
-    make_bodies(alloc, captured, goals, base, &numbers, nodes.drawn())
+    let LiveChoices { choices, since } = live;
+    let Lead { base, bindings } = since;
+    let CapturedAlternative {
+        first,
+        bindings: own,
+        next,
+    } = current;
+    let whole = CapturedAlternative {
+        first,
+        bindings: joined(bindings, own)?,
+        next,
+    };
+    let branch = branch_of(whole, base, goals)?;
+    let mut choices = choices;
+    let innermost = choices.pop();
+    let mut bodies = outer_bodies(alloc, choices, goals)?;
+    let body = match innermost {
+        Some(choice) => body_of(alloc, choice, branch, goals)?,
+        None => alone_body(alloc, base, branch)?,
+    };
+    bodies.push(Arc::new(alloc, body)?)?;
+    Ok(bodies)
 }
 
-/// What an alternative has left to do, and its next variable number.
-fn left_at(nodes: &Nodes, at: AltRef) -> Result<(&Goals, VarNo), NoMemory>
-    requires { IsSome (cell_at nodes.now.rows (place_view at)) }
-    ensures { IfOk result (λ left. IsBranchAt nodes.now.rows (place_view at) left.0.now left.1) }
+fn outer_bodies(
+    alloc: Global,
+    choices: Vec<LiveChoice>,
+    goals: &[Goals],
+) -> Result<Vec<Arc<NodeBody>>, NoMemory>
+    ensures { IfOk result (λ bodies. AreBodiesOf goals.now choices.items (bodies_view bodies.items)) }
 {
-    let branch = &nodes.body(at.node).branches[at.alternative as usize];
-    match branch.segment.base.checked_add(branch.segment.vars) {
-        Some(base) => Ok((&branch.goals, base)),
-        None => Err(NoMemory),
+    let mut bodies = Vec::new(alloc);
+    for choice in choices {
+        let first = leading_branch(alloc, choice.next);
+        let body = body_of(alloc, choice, first, goals)?;
+        bodies.push(Arc::new(alloc, body)?)?;
+    }
+    Ok(bodies)
+}
+
+fn body_of(
+    alloc: Global,
+    choice: LiveChoice,
+    first: Branch,
+    goals: &[Goals],
+) -> Result<NodeBody, NoMemory>
+    ensures { IfOk result (λ body. IsBodyOf goals.now choice first (body_view body)) }
+{
+    let LiveChoice {
+        kind,
+        lead,
+        next,
+        alternatives,
+    } = choice;
+    let Lead { base, bindings } = lead;
+    let segment = Segment {
+        base,
+        vars: u64::from(next.saturating_sub(base)),
+        bindings,
+    };
+    Ok(NodeBody {
+        segment: Arc::new(alloc, segment)?,
+        branches: branches_of(alloc, first, alternatives, next, goals)?,
+        kind: kind_of(kind),
+    })
+}
+
+fn alone_body(alloc: Global, base: VarNo, branch: Branch) -> Result<NodeBody, NoMemory>
+    ensures { IfOk result (λ body. IsAloneBody base branch (body_view body)) }
+{
+    let mut branches = Vec::new(alloc);
+    branches.push(branch)?;
+    Ok(NodeBody {
+        segment: Arc::new(alloc, empty_segment(alloc, base))?,
+        branches,
+        kind: NodeKind::Choice,
+    })
+}
+
+fn leading_branch(alloc: Global, base: VarNo) -> Branch
+    ensures { IsLeading base result }
+{
+    Branch {
+        goals: Goals::empty(),
+        segment: empty_segment(alloc, base),
     }
 }
 
-/// What a task's region has left over its floor.
-fn take_off(task: TaskRegion, alloc: Global) -> Result<Captured, NoMemory>
-    requires going { IsSome task.next }
-    requires own { HasSomeOwn task }
-    ensures { IfOk result (IsTakenOffTask task) }
+fn empty_segment(alloc: Global, base: VarNo) -> Segment
+    ensures { result ≡ record { base = base; vars = 0; bindings = [] } }
 {
-    own_entries_are_taken();
-    let (region, floor, position) = task.into_region();
-    let mut region = region;
-    region.ends_are_oldest();
-    capture(&mut region, alloc, floor, position)
+    Segment {
+        base,
+        vars: 0,
+        bindings: Bindings::new(alloc),
+    }
 }
 
-/// The numbers of the nodes on the way up from an alternative, the outermost first.
-fn numbers_up(nodes: &Nodes, at: AltRef, alloc: Global) -> Result<Vec<u64>, NoMemory>
-    requires { IsSome (row_of_node nodes.now.rows at.node) }
-    ensures { IfOk result (λ numbers. AreNumbersUp nodes.now.rows (place_view at) numbers.items) }
+fn kind_of(kind: CapturedKind) -> NodeKind
+    ensures { kind_view result ≡ published_kind kind }
 {
-    let places = places_up(nodes, at, alloc)?;
-    let mut numbers = Vec::new(alloc);
-    for place in &places {
-        numbers.push(place.node)?;
+    match kind {
+        CapturedKind::Choice => NodeKind::Choice,
+        CapturedKind::Catch { catcher, recovery } => NodeKind::Catch { catcher, recovery },
+        CapturedKind::Findall { list, results } => NodeKind::Findall { results, list },
     }
-    numbers.reverse();
-    Ok(numbers)
 }

@@ -1,49 +1,43 @@
-//! Tasks that are published.
-ghost use Rattle.std.specs.Prelude.{◌≡◌, ◌≤◌, true, is_some, IsSome, OnErr, OnOk};
-ghost use Rattle.tree_model.specs.EventViews.{place_view};
-ghost use Rattle.tree_model.specs.Legality.{taken_at};
-ghost use Rattle.tree_core.specs.Histories.{state_of};
-ghost use Rattle.task_publishing.specs.TaskRuns.{Publishes, StopsThere};
-ghost use Rattle.branch_loading.specs.TaskLoads.{StartsOnBranch};
+//! The bodies of the nodes that a run becomes.
+ghost use Rattle.std.specs.Prelude.{IfOk};
+ghost use Rattle.public_tree.specs.Publishing.{bodies_view};
+ghost use Rattle.task_publishing.specs.PublishedRuns.{MeanPublished};
 
-use crate::bodies::bodies_of_task;
-use au_term::NoMemory;
-use branch_bindings::laws::extensions_are_unified;
-use branch_reading::laws::numbered_trees_are_settled;
-use branch_shapes::laws::{floor_items_stay, meant_runs_read, settled_segments_bind};
-use region_floor::laws::steps::{regions_run_privately, tops_are_own};
+use crate::bodies::bodies_of;
+use crate::goals::{goals_by_number, tails_of};
+use crate::scopes::scopes_kept;
+use crate::steps::live_choices;
+use au_term::{NoMemory, VarNo};
+use clause_compile::Goals;
+use region_capture::Captured;
 use std::alloc::Global;
-use task_region::TaskRegion;
-use tree_core::{JobBrand, Tree};
-use tree_model::AltRef;
+use std::sync::Arc;
+use tree_nodes::NodeBody;
 
-/// A worker makes nodes of what the task of an alternative that is out to it has left after so many inferences. Nothing happens where the
-/// tree has ended or was stopped.
-pub fn publish_task<J: JobBrand>(
-    tree: &mut Tree<J>,
-    worker: u32,
-    at: AltRef,
-    inferences: u64,
+/// Bodies, the outermost first, for what was taken off a region: of the goals of the alternative of the tree that was run there
+/// and its next variable number, the numbers of the nodes on its branch, the outermost first, and the number that the next node
+/// gets.
+pub fn make_bodies(
     alloc: Global,
-    task: TaskRegion,
-) -> Result<(), NoMemory>
-    requires some { 1 ≤ inferences }
-    requires out { is_some (taken_at worker (place_view at) (state_of tree.old.history)) ≡ true }
-    requires going { IsSome task.next }
-    requires stops { StopsThere tree.old.nodes (place_view at) tree.old.history.job.clauses inferences task }
-    requires start { StartsOnBranch tree.old.nodes (place_view at) task }
-    ensures publishes { OnOk result (Publishes tree.old.history tree.new.history worker (place_view at) inferences) }
-    ensures err { OnErr result (tree.new.history ≡ tree.old.history) }
+    captured: Captured,
+    goals: &Goals,
+    base: VarNo,
+    branch: &[u64],
+    next: u64,
+) -> Result<Vec<Arc<NodeBody>>, NoMemory>
+    ensures { IfOk result (λ bodies. MeanPublished captured goals.now base branch.now next (bodies_view bodies.items)) }
 {
-    numbered_trees_are_settled();
-    floor_items_stay();
-    settled_segments_bind();
-    extensions_are_unified();
-    meant_runs_read();
-    regions_run_privately();
-    tops_are_own();
-    tree.stays_legal();
-    tree.keeps_promises();
-    let bodies = bodies_of_task(tree.nodes(), at, alloc, task)?;
-    tree.publish(worker, at, inferences, &bodies)
+    let Captured {
+        items,
+        current,
+        choices,
+    } = captured;
+    let mut choices = choices;
+    choices.reverse();
+    let scopes = scopes_kept(alloc, branch, &choices, next)?;
+    let tails = tails_of(alloc, goals)?;
+    let lists = goals_by_number(alloc, &items, &scopes, &tails)?;
+    let live = live_choices(alloc, choices, base)?;
+    let bodies = bodies_of(alloc, live, current, &lists)?;
+    Ok(bodies)
 }

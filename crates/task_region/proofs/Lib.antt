@@ -13,3 +13,10 @@ mod RoundLemmas
 mod RunningLemmas
 mod CompoundRoundLemmas
 pub mod ResultLemmas
+mod MadeLemmas
+mod PlaceUpLemmas
+mod HeightLemmas
+mod BindingLemmas
+pub mod BranchLoadLemmas
+mod LoadableLemmas
+pub mod AtPlaceLemmas

@@ -9,3 +9,7 @@ pub mod CutGoals
 pub mod TaskStops
 pub mod TaskRounds
 pub mod TaskResults
+pub mod PlacesUp
+pub mod MadeInTurn
+pub mod ScopeHeights
+pub mod TaskLoads

@@ -9,7 +9,7 @@ use Rattle.tree_nodes.specs.Rows.{StoredNode, Rows, row_of_node}
 use Rattle.tree_nodes.specs.TreeTables.{NodesView, IsWayTo}
 use Rattle.branch_reading.specs.BranchSegments.{above_in_query, own_segments, segments_on, next_number}
 use Rattle.branch_reading.specs.SettledWays.{branch_items, items_on}
-use Rattle.branch_steps.specs.RestBodies.{IsRestBody, items_behind}
+use Rattle.branch_shapes.specs.RestBodies.{IsRestBody, items_behind}
 use Rattle.task_world.specs.FrontSteps.{LeavesBehind}
 
 module _ (rows : Rows) (v : Level) (up : List Level) (way : Branching) (body : Body) (on : IsWayTo rows (v ∷ up) way) (l : LeavesBehind rows (place_at v) body) where

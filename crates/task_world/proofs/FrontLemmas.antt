@@ -21,7 +21,7 @@ use Rattle.tree_closing.specs.declared.way_up.Closing.{Closing}
 use Rattle.branch_reading.specs.NumberedReadings.{NumberedTreesAreSettled}
 use Rattle.branch_reading.specs.Readings.{reading}
 use Rattle.branch_shapes.specs.FloorItems.{ScopedItemsNameLevels}
-use Rattle.branch_steps.specs.FrontReadings.{FrontsAreRead, HoldsAtFront, behind_first}
+use Rattle.branch_shapes.specs.FrontReadings.{FrontsAreRead, HoldsAtFront, behind_first}
 use Rattle.public_tree.specs.Answering.{AtFront, ClosesAs, GoesOnAs, front_credit}
 use Rattle.task_world.specs.FrontSteps.{LeavesBehind, LeavesRest}
 use Rattle.task_world.proofs.BranchLemmas.{rest_on}

@@ -7,3 +7,7 @@ mod AnswerLemmas
 pub mod TopLemmas
 pub mod ToldLemmas
 mod LoadedLemmas
+mod GoalLemmas
+mod WayLemmas
+mod EndLemmas
+mod OutLemmas

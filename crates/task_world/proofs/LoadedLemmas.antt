@@ -1,6 +1,6 @@
 -- Tasks that were loaded and run without an inference.
 use Rattle.std.proofs.Common.{◌≡◌, ◌+◌, ◌∷◌, subst, arith}
-use Rattle.branch_loading.specs.TaskLoads.{run_on_branch}
+use Rattle.task_region.specs.TaskLoads.{run_on_branch}
 use Rattle.branch_reading.specs.Readings.{named_of, query_on}
 use Rattle.task_region.specs.TaskStops.{StopsTask}
 use Rattle.task_world.specs.FrontsTold.{LoadedTasksStopAtFront}

@@ -21,8 +21,8 @@ use Rattle.branch_reading.specs.Readings.{items_meant, or_nothing, reading}
 use Rattle.branch_reading.specs.SettledWays.{is_way_settled, items_on}
 use Rattle.branch_shapes.specs.FloorItems.{ScopedItemsNameLevels}
 use Rattle.branch_shapes.proofs.OutLemmas.{IsOutAt, out_at, awake_at, end_read, names_back}
-use Rattle.branch_steps.specs.CutReadings.{IsPlainOn}
-use Rattle.branch_steps.proofs.PlainReadingLemmas.{bound_continuation, plain_reading}
+use Rattle.branch_shapes.specs.CutReadings.{IsPlainOn}
+use Rattle.branch_shapes.proofs.PlainReadingLemmas.{bound_continuation, plain_reading}
 
 -- heights leave what kind of entry it is
 pub plain_below : (levels : List Level) (e : Entry) (f : Continuation ℕ) → with_heights levels e ≡ PlainEntry f → (g : Continuation ℕ) × (e ≡ PlainEntry g)

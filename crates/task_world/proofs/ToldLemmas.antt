@@ -4,7 +4,7 @@ use Rattle.std.proofs.lemmas.List.{append-nil}
 use Rattle.au_model.specs.Terms.Named.{NamedTerm, variable_meant}
 use Rattle.au_model.specs.Terms.Substitutions.{Substitution}
 use Rattle.au_model.specs.declared.types.VarName.{VarName}
-use Rattle.branch_loading.specs.TaskLoads.{run_on_branch}
+use Rattle.task_region.specs.TaskLoads.{run_on_branch}
 use Rattle.branch_reading.specs.Readings.{continuation_on, named_of, query_on, reading}
 use Rattle.cell_store.specs.StoreView.{StoreView}
 use Rattle.region_floor.specs.Deferred.{carried_term, deferred_now, joined_continuation, joined_items}

@@ -20,7 +20,7 @@ use Rattle.public_tree.specs.PublicTrees.{is_going}
 use Rattle.public_tree.specs.declared.answering.Answering.{Answering}
 use Rattle.tree_core.specs.Histories.{History, TreeView, state_of}
 use Rattle.tree_core.specs.Turns.{where_legal, answering_of}
-use Rattle.branch_steps.specs.RestBodies.{IsRestBody, items_behind}
+use Rattle.branch_shapes.specs.RestBodies.{IsRestBody, items_behind}
 use Rattle.task_world.specs.FrontItems.{HasLeft}
 use Rattle.task_world.specs.declared.step.FrontStep.{FrontStep}
 use Rattle.task_world.specs.declared.step.FrontStep.TheVariants.{Done, Closes}

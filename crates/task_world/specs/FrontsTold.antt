@@ -2,7 +2,7 @@
 use Rattle.std.specs.Prelude.{◌≡◌, ℕ, List, ◌∷◌, map, Some}
 use Rattle.au_model.specs.Terms.Named.{variable_meant}
 use Rattle.au_model.specs.declared.types.VarName.{VarName}
-use Rattle.branch_loading.specs.TaskLoads.{LoadsTask, run_on_branch}
+use Rattle.task_region.specs.TaskLoads.{LoadsTask, run_on_branch}
 use Rattle.branch_reading.specs.Readings.{named_of, query_on, reading}
 use Rattle.region_split.specs.Texts.{TextView}
 use Rattle.run_model.specs.Programs.Clauses.{Clause}

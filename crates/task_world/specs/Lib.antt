@@ -1,3 +1,5 @@
 pub mod FrontItems
 pub mod FrontSteps
 pub mod FrontsTold
+pub mod QueryEnds
+pub mod OutTasks

@@ -12,7 +12,7 @@ use crate::step::FrontStep;
 use au_term::NoMemory;
 use branch_reading::laws::numbered_trees_are_settled;
 use branch_shapes::laws::floor_items_stay;
-use branch_steps::laws::fronts_are_read;
+use branch_shapes::step_laws::fronts_are_read;
 use public_tree::Answering;
 use std::alloc::Global;
 use tree_core::{JobBrand, Tree};

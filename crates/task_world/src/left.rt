@@ -7,7 +7,7 @@ ghost use Rattle.tree_nodes.specs.Rows.{cell_at};
 ghost use Rattle.task_world.specs.FrontSteps.{LeavesBehind};
 
 use au_term::NoMemory;
-use branch_steps::rest_body;
+use branch_shapes::rest_body;
 use std::alloc::Global;
 use std::sync::Arc;
 use tree_model::AltRef;

@@ -1,7 +1,7 @@
 //! The nodes of queries, and of what is left behind a first goal, as they are made.
 use crate::asks::expect;
 use branch_reading::{end_body, query_body};
-use branch_steps::rest_body;
+use branch_shapes::rest_body;
 use clause_compile::{Goals, Item, Scope};
 use std::alloc::Global;
 use std::process::Abort;

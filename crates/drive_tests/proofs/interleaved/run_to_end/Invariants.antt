@@ -1,4 +1,4 @@
-use Rattle.task_serving.specs.JobRuns.{IsJobRun}
+use Rattle.scheduler.specs.JobRuns.{IsJobRun}
 use Rattle.drive_tests.proofs.interleaved.run_to_end.Given as goal
 
 abbrev pub invariant-loop : goal.invariant-loop

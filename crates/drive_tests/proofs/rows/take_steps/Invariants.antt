@@ -1,4 +1,4 @@
-use Rattle.task_serving.specs.JobRuns.{IsJobRun}
+use Rattle.scheduler.specs.JobRuns.{IsJobRun}
 use Rattle.drive_tests.proofs.rows.take_steps.Given as goal
 
 abbrev pub invariant-loop-step : goal.invariant-loop-step

@@ -1,4 +1,4 @@
-use Rattle.task_serving.specs.JobRuns.{IsJobRun}
+use Rattle.scheduler.specs.JobRuns.{IsJobRun}
 use Rattle.drive_tests.proofs.rows.turns_taken.Given as goal
 
 abbrev pub invariant-loop-taken : goal.invariant-loop-taken

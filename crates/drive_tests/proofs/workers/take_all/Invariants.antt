@@ -1,4 +1,4 @@
-use Rattle.task_serving.specs.JobRuns.{IsJobRun}
+use Rattle.scheduler.specs.JobRuns.{IsJobRun}
 use Rattle.drive_tests.proofs.workers.take_all.Given as goal
 
 abbrev pub invariant-loop-worker : goal.invariant-loop-worker

@@ -1,4 +1,4 @@
-use Rattle.task_serving.specs.JobRuns.{IsJobRun}
+use Rattle.scheduler.specs.JobRuns.{IsJobRun}
 use Rattle.drive_tests.proofs.workers.take_turns.Given as goal
 
 abbrev pub invariant-loop-one : goal.invariant-loop-one

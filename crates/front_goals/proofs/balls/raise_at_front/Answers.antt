@@ -5,11 +5,11 @@ use Rattle.tree_model.specs.EventViews.{place_view}
 use Rattle.tree_nodes.specs.Bodies.{body_view}
 use Rattle.tree_nodes.specs.Rows.{cell_at, scope_number}
 use Rattle.tree_nodes.specs.TreeTables.{NodesView}
-use Rattle.branch_loading.specs.PlacesUp.{items_at_place}
-use Rattle.branch_steps.specs.RestBodies.{items_behind}
+use Rattle.task_region.specs.PlacesUp.{items_at_place}
+use Rattle.branch_shapes.specs.RestBodies.{items_behind}
 use Rattle.tree_core.specs.Histories.{state_of}
-use Rattle.ball_landing.specs.FoundLandings.{HasReadableCatches, LandsBall}
-use Rattle.ball_landing.specs.Landings.{innermost_catch, landing}
+use Rattle.task_stops.specs.FoundLandings.{HasReadableCatches, LandsBall}
+use Rattle.task_stops.specs.Landings.{innermost_catch, landing}
 use Rattle.front_goals.proofs.RaisedLemmas.{RaiseLaws, falls_as, landing_whole}
 use Rattle.front_goals.proofs.balls.raise_at_front.Goals as goal
 

@@ -1,6 +1,6 @@
 use Rattle.std.proofs.Common.{◌≡◌}
 use Rattle.run_model.specs.Machine.Runs.{text_of}
-use Rattle.task_serving.specs.JobRuns.{IsJobRun}
+use Rattle.scheduler.specs.JobRuns.{IsJobRun}
 use Rattle.scheduler.specs.Driving.{IsDriven}
 use Rattle.scheduler.specs.Pieces.{HasPutOut}
 use Rattle.scheduler.proofs.driving.drive_on.Given as goal

@@ -2,8 +2,8 @@ use Rattle.std.proofs.Common.{rules, ◌≡◌, length, min, sym, ap, ◌∙◌,
 use Rattle.std.specs.Arc.{arc_value}
 use Rattle.run_model.specs.Programs.Jobs.{Job}
 use Rattle.tree_core.specs.Histories.{History}
-use Rattle.task_serving.specs.JobRuns.{IsJobRun}
-use Rattle.task_serving.specs.declared.job_run.JobRun.{JobRun}
+use Rattle.scheduler.specs.JobRuns.{IsJobRun}
+use Rattle.scheduler.specs.declared.job_run.JobRun.{JobRun}
 use Rattle.scheduler.proofs.OpeningLemmas.{opened, run_opened}
 use Rattle.scheduler.proofs.opening.open.Goals as goal
 

@@ -4,7 +4,7 @@ use Rattle.tree_model.specs.EventViews.{place_view}
 use Rattle.tree_nodes.specs.Bodies.{body_view}
 use Rattle.tree_nodes.specs.Rows.{alternatives_at, row_of_node}
 use Rattle.tree_nodes.specs.declared.body.NodeBody.{NodeBody}
-use Rattle.branch_steps.specs.RestBodies.{IsRestBody, items_behind}
+use Rattle.branch_shapes.specs.RestBodies.{IsRestBody, items_behind}
 use Rattle.task_world.proofs.BranchLemmas.{within, left_behind, got_or, if_ok}
 use Rattle.task_world.proofs.left.body_behind.Goals as goal
 

@@ -1,9 +1,0 @@
-mod CopyLemmas
-mod TakenLemmas
-mod FoundLemmas
-mod LandingLemmas
-mod AllLandingLemmas
-mod ReadableLemmas
-mod RecoveryLemmas
-mod AskedLemmas
-mod FallenLemmas

@@ -1,6 +1,0 @@
-use Rattle.std.proofs.Common.{◌≡◌}
-use Rattle.ball_landing.specs.Landings.{innermost_catch}
-use Rattle.ball_landing.proofs.catches.innermost_catch.Given as goal
-
-abbrev pub invariant-loop-item : goal.invariant-loop-item
-invariant-loop-item l = innermost_catch l.item-iterator ≡ innermost_catch l.goals

@@ -1,8 +1,0 @@
-use Rattle.std.proofs.Common.{◌≡◌, drop, map}
-use Rattle.tree_model.specs.EventViews.{place_view}
-use Rattle.ball_landing.specs.Landings.{landing}
-use Rattle.ball_landing.proofs.landing.caught_up.Given as goal
-
-abbrev pub invariant-loop-index : goal.invariant-loop-index
-invariant-loop-index l =
-    landing l.nodes.rows l.ball l.fn.first (map place_view l.places) ≡ landing l.nodes.rows l.ball l.mark (map place_view (drop l.index l.places))

@@ -1,7 +1,0 @@
-use Rattle.std.proofs.Common.{◌≡◌, drop, map}
-use Rattle.tree_model.specs.EventViews.{place_view}
-use Rattle.ball_landing.specs.LandingBodies.{query_up}
-use Rattle.ball_landing.proofs.landing.query_up.Given as goal
-
-abbrev pub invariant-loop-place : goal.invariant-loop-place
-invariant-loop-place l = query_up l.nodes.rows (map place_view (drop l.place-index l.places)) ≡ query_up l.nodes.rows (map place_view l.places)

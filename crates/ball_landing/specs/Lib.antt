@@ -1,6 +1,0 @@
-pub mod Landings
-pub mod BranchLandings
-pub mod LandingBodies
-pub mod CopiesAgain
-pub mod TakenBalls
-pub mod FoundLandings

@@ -1,4 +1,0 @@
-pub mod PlacesUp
-pub mod MadeInTurn
-pub mod ScopeHeights
-pub mod TaskLoads

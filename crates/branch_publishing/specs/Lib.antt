@@ -1,5 +1,0 @@
-pub mod KeptScopes
-pub mod BranchGoals
-pub mod LiveChoices
-pub mod MadeBodies
-pub mod PublishedRuns

@@ -1,3 +1,0 @@
-pub mod RestBodies
-pub mod CutReadings
-pub mod FrontReadings

@@ -1,6 +1,0 @@
-pub mod GatheredLemmas
-pub mod QuietLemmas
-pub mod SameWayLemmas
-pub mod WokenReadingLemmas
-pub mod WokenLemmas
-pub mod FewerNodeLemmas

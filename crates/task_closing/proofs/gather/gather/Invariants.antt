@@ -1,7 +1,0 @@
-use Rattle.std.proofs.Common.{◌≡◌, drop}
-use Rattle.task_closing.specs.GatheredResults.{gathered, gathered_view}
-use Rattle.task_closing.proofs.gather.gather.Given as goal
-
-abbrev pub invariant-loop-record : goal.invariant-loop-record
-invariant-loop-record l =
-    gathered (drop l.record-index l.records) (gathered_view l.all) ≡ gathered l.records (record { terms = l.fn.results; next = l.next })

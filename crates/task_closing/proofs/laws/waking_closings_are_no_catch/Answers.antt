@@ -1,5 +1,0 @@
-use Rattle.task_closing.proofs.FewerNodeLemmas.{waking_no_catch}
-use Rattle.task_closing.proofs.laws.waking_closings_are_no_catch.Goals as goal
-
-pub returns : goal.returns
-returns c = waking_no_catch

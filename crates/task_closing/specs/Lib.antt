@@ -1,3 +1,0 @@
-pub mod GatheredResults
-pub mod WokenBodies
-pub mod WakingPlaces

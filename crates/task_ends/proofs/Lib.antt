@@ -1,3 +1,0 @@
-mod EndLemmas
-mod GivenLemmas
-mod CloseLemmas

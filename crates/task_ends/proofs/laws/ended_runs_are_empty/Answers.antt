@@ -1,5 +1,0 @@
-use Rattle.task_ends.proofs.EndLemmas.{ended_runs_are_empty}
-use Rattle.task_ends.proofs.laws.ended_runs_are_empty.Goals as goal
-
-pub returns : goal.returns
-returns c = ended_runs_are_empty

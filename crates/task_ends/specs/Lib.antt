@@ -1,2 +1,0 @@
-pub mod TaskEnds
-pub mod EndLaws

@@ -1,4 +1,0 @@
-mod ThrownBallLemmas
-mod CopiedBallLemmas
-mod SpotBallLemmas
-mod FallLemmas

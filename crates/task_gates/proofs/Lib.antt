@@ -1,6 +1,0 @@
-mod GateRestLemmas
-mod CauseLemmas
-mod StopGateLemmas
-mod FrontCutLemmas
-mod SuspendLemmas
-mod UntakenLemmas

@@ -1,6 +1,0 @@
-use Rattle.std.proofs.Common.{◌≡◌}
-use Rattle.task_gates.specs.FrontCuts.{scope_in_front}
-use Rattle.task_gates.proofs.front.scope_of.Given as goal
-
-abbrev pub invariant-loop-item : goal.invariant-loop-item
-invariant-loop-item l = scope_in_front l.item-iterator ≡ scope_in_front l.goals

@@ -1,3 +1,0 @@
-pub mod StopCauses
-pub mod StopGates
-pub mod FrontCuts

@@ -1,3 +1,0 @@
-mod GoalLemmas
-mod WayLemmas
-mod EndLemmas

@@ -1,4 +1,0 @@
-use Rattle.task_queries.proofs.ending.write_end.Goals as goal
-
-pub returns-clause-written : goal.returns-clause-written
-returns-clause-written c = (c.in_ok-apply.ensures.applied 0).0

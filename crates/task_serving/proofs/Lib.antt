@@ -1,9 +1,0 @@
-mod EventLemmas
-mod RunLemmas
-mod BackLemmas
-mod TaskLemmas
-mod FrontLemmas
-mod EndLemmas
-mod NameLemmas
-mod CloseLemmas
-mod FirstLemmas

@@ -1,9 +1,0 @@
-use Rattle.tree_model.specs.EventViews.{place_view}
-use Rattle.task_serving.specs.StoppedTasks.{inferences_left, RunsUnder}
-use Rattle.task_serving.proofs.running.run_on.Given as goal
-
-abbrev pub invariant-loop-at : goal.invariant-loop-at
-invariant-loop-at g l = RunsUnder l.tree (place_view l.at) l.kinds l.limit l.stopped
-
-abbrev pub decreases-loop-at : goal.decreases-loop-at
-decreases-loop-at g l = inferences_left l.limit l.stopped

@@ -1,0 +1,15 @@
+pub mod StopCauses
+pub mod StopGates
+pub mod FrontCuts
+pub mod TaskEnds
+pub mod EndLaws
+pub mod ThrownBalls
+pub mod GatheredResults
+pub mod WokenBodies
+pub mod WakingPlaces
+pub mod Landings
+pub mod BranchLandings
+pub mod LandingBodies
+pub mod CopiesAgain
+pub mod TakenBalls
+pub mod FoundLandings
