@@ -1,6 +1,7 @@
 //! Queries, opened one after another, each in a region of its own.
 ghost use Rattle.std.specs.Prelude.{◌≡◌, IfOk, OnOk};
 ghost use Rattle.std.specs.Arc.{arc_value};
+ghost use Rattle.region_split.specs.StackOperations.{new_region};
 ghost use Rattle.text_load.specs.QueryView.{goal_terms};
 ghost use Rattle.stack_run.specs.MachineView.{IsNextHeld, OpensNext, OpensQuery};
 
@@ -39,6 +40,15 @@ fn open(alloc: Global, text: Arc<Text>, query: &Query) -> Result<(Region, Positi
     ensures { IfOk result (λ opened. OpensQuery (arc_value text) query.now opened.0 opened.1) }
 {
     let mut region = Region::new(alloc, text)?;
+    let position = begin(&mut region, alloc, query)?;
+    Ok((region, position))
+}
+
+/// Where a query begins in a new region.
+fn begin(region: &mut Region, alloc: Global, query: &Query) -> Result<Position, NoMemory>
+    requires { region.old ≡ new_region region.old.text }
+    ensures { IfOk result (OpensQuery region.old.text query.now region.new) }
+{
     let Ok(variables) = u32::try_from(query.vars()) else {
         return Err(NoMemory);
     };
@@ -50,7 +60,7 @@ fn open(alloc: Global, text: Arc<Text>, query: &Query) -> Result<(Region, Positi
     let cut = region.scope()?;
     let after = region.nothing_left();
     let position = region.push_goals(&goals, cut, after)?;
-    Ok((region, position))
+    Ok(position)
 }
 
 /// The terms of goals, shared.

@@ -42,10 +42,10 @@ pub fn run_job<K: Sink>(alloc: Global, job: Job, budget: u64, out: &mut K) -> Ru
     let Ok(program) = Program::new(alloc, clauses, queries) else {
         return failed(RunEnding::NoMemory);
     };
-    let Ok((machine, next)) = begin(alloc, &program, world) else {
+    let Ok((mut machine, next)) = begin(alloc, &program, world) else {
         return failed(RunEnding::NoMemory);
     };
-    run_on(alloc, &program, machine, next, budget, out)
+    run_on(alloc, &program, &mut machine, next, budget, out)
 }
 
 /// A run before its first inference.
@@ -69,20 +69,19 @@ fn begin(alloc: Global, program: &Program, world: World) -> Result<(Machine, Nex
 fn run_on<K: Sink>(
     alloc: Global,
     program: &Program,
-    machine: Machine,
+    machine: &mut Machine,
     next: Next,
     budget: u64,
     out: &mut K,
 ) -> RunEnd
-    requires begins { Begins program.now machine next }
+    requires begins { Begins program.now machine.old next }
     requires kinds { program.now.kinds ≡ (arc_value program.now.text).code.names }
-    requires statics { HasStatics machine.region machine.world }
-    ensures run { IsRun (program_job program.now (world_meant machine.world)) budget (K.taken out.old) (K.taken out.new) result }
+    requires statics { HasStatics machine.old.region machine.old.world }
+    ensures run { IsRun (program_job program.now (world_meant machine.old.world)) budget (K.taken out.old) (K.taken out.new) result }
     ensures fault { result.end ≡ RunEnding.WriteFault → Increased (K.faults out.old) (K.faults out.new) }
     ensures quiet { result.end ≢ RunEnding.WriteFault → K.faults out.new ≡ K.faults out.old }
     ensures faults_stay { K.faults out.old ≤ K.faults out.new }
 {
-    let mut machine = machine;
     let mut next = next;
     let mut waiting = Waiting::new(alloc);
     let mut taken = 0;
@@ -100,7 +99,7 @@ fn run_on<K: Sink>(
             let end = ended(RunEnding::Budget, machine.answers, budget);
             return waiting.close(end, out);
         }
-        next = match step(alloc, program, &mut machine, ran.stop) {
+        next = match step(alloc, program, machine, ran.stop) {
             Ok(next) => next,
             Err(_) => return waiting.close(failed(RunEnding::NoMemory), out),
         };

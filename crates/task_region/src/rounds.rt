@@ -30,7 +30,7 @@ pub(crate) enum TaskRound {
 
 /// Takes one inference, if one more may be taken, or tells why the run stops. A compound that stands first, as most goals do, is
 /// taken at once.
-#[inline]
+#[inline(always)]
 pub(crate) fn pass_round(
     region: &mut Region,
     alloc: Global,
@@ -104,7 +104,7 @@ fn take_goal(
 }
 
 /// What a round comes to in which a goal was taken: where the world is asked, the goal is left where it stood.
-#[inline]
+#[inline(always)]
 fn after_goal(
     region: &mut Region,
     item: FrameItem,

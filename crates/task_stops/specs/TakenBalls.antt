@@ -6,6 +6,9 @@ use Rattle.au_model.specs.Terms.Copies.{copied, copy_takes}
 use Rattle.au_model.specs.Terms.Substitutions.{Substitution, resolve}
 use Rattle.au_model.specs.Terms.Unifier.{unifier}
 use Rattle.cell_store.specs.StoreView.{Moment, IsComposition}
+use Rattle.region_split.specs.Regions.{RegionView}
+use Rattle.region_split.specs.Texts.{TextView}
+use Rattle.task_region.specs.TaskLoads.{IsBoundOver}
 use Rattle.tree_model.specs.Levels.{Place}
 use Rattle.tree_nodes.specs.Bodies.{Body}
 use Rattle.tree_nodes.specs.Rows.{Rows}
@@ -30,6 +33,12 @@ pub record LeadsToTaken (m : Moment) (catcher ball : Term) (segment : Segment) :
 abbrev pub TakesBall : Moment → Term → Term → Option Segment → Type 0
 TakesBall m catcher ball None = taken_over m catcher ball ≡ None
 TakesBall m catcher ball (Some segment) = LeadsToTaken m catcher ball segment
+
+-- it does so in a region in which nothing but what is bound at these places is bound
+pub record TakesBallOver (rows : Rows) (places : List Place) (text : TextView) (catcher ball : Term) (taken : Option Segment) : Type 0 where
+  pub region : RegionView
+  pub bound : IsBoundOver rows places text region
+  pub takes : TakesBall region.store.now catcher ball taken
 
 -- a body is made of the recovery that sleeps beside a place, where its catch takes the ball
 abbrev pub RecoversBeside : Rows → Place → List Place → Term → Body → Type 0

@@ -13,9 +13,11 @@ ghost use Rattle.text_load.specs.LoadedTexts.{clauses_beside, database_of, job_o
 
 use crate::job::Job;
 use crate::loading::Loading;
+use crate::query::Query;
 use au_term::NoMemory;
 use clause_compile::Clause;
 use dyn_clauses::{DataRefusal, Database, Indicator};
+use op_table::Ops;
 use std::alloc::Global;
 use std::sync::Arc;
 
@@ -23,11 +25,42 @@ use std::sync::Arc;
 pub(crate) fn job_from(alloc: Global, library: Loading, text: Loading) -> Result<Job, NoMemory>
     ensures { IfOk result (λ job. job ≡ job_of library text) }
 {
-    let clauses = clauses_of(alloc, &library, &text)?;
-    let database = database_of(alloc, &clauses, &library, &text)?;
-    let (mut queries, mut own) = (library.queries, text.queries);
+    let (clauses, database) = program_of(alloc, &library, &text)?;
+    let (ops, queries) = rest_of(library, text)?;
+    Ok(Job::new(clauses, database, ops, queries))
+}
+
+/// The clauses of the static procedures, and the dynamic procedures.
+fn program_of(
+    alloc: Global,
+    library: &Loading,
+    text: &Loading,
+) -> Result<(Vec<Arc<Clause>>, Database), NoMemory>
+    ensures clauses { IfOk result (λ r. map arc_value r.0.items ≡ (job_of library.now text.now).clauses) }
+    ensures database { IfOk result (λ r. r.1.kept ≡ (job_of library.now text.now).database) }
+    ensures statics { IfOk result (λ r. AreStatics r.1.statics (map arc_value r.0.items)) }
+{
+    let clauses = clauses_of(alloc, library, text)?;
+    let database = database_of(alloc, &clauses, library, text)?;
+    Ok((clauses, database))
+}
+
+/// The operators of a text, and a library's queries before its own.
+fn rest_of(library: Loading, text: Loading) -> Result<(Ops, Vec<Query>), NoMemory>
+    ensures ops { IfOk result (λ r. r.0 ≡ text.setting.ops) }
+    ensures queries { IfOk result (λ r. r.1.items ≡ library.queries ++ text.queries) }
+{
+    let (_, mut queries) = ops_and_queries(library);
+    let (ops, mut own) = ops_and_queries(text);
     queries.append(&mut own)?;
-    Ok(Job::new(clauses, database, text.ops, queries))
+    Ok((ops, queries))
+}
+
+fn ops_and_queries(loading: Loading) -> (Ops, Vec<Query>)
+    ensures ops { result.0 ≡ loading.setting.ops }
+    ensures queries { result.1.items ≡ loading.queries }
+{
+    (loading.ops, loading.queries)
 }
 
 /// The static clauses of a library beside a text, and those of the text.

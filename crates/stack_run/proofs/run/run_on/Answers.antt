@@ -13,11 +13,11 @@ true_false : {b : Bool} → b ≡ true → b ≡ false → ⊥
 true_false p q = cc
 
 pub loop-ran-init : goal.loop-ran-init
-loop-ran-init g c = (begun c.args.program.now c.args.machine c.args.next c.new-waiting.result.bytes.items (g.K.Sink.taken c.args.out.now) (g.K.Sink.faults c.args.out.now) c.new-waiting.ensures c.requires.begins c.requires.statics, omega arith)
+loop-ran-init g c = (begun c.args.program.now c.args.machine.now c.args.next c.new-waiting.result.bytes.items (g.K.Sink.taken c.args.out.now) (g.K.Sink.faults c.args.out.now) c.new-waiting.ensures c.requires.begins c.requires.statics, omega arith)
 
 pub returns-in_default-clause-run : goal.returns-in_default-clause-run
 returns-in_default-clause-run g c =
-    let job = program_job c.args.program.now (world_meant c.args.machine.world) in
+    let job = program_job c.args.program.now (world_meant c.args.machine.now.world) in
     let r = c.loop-ran.invariant.0.out in
     closed job c.args.budget c.loop-ran.waiting.bytes.items (g.K.Sink.taken c.args.out.now) (g.K.Sink.taken c.loop-ran.out) (g.K.Sink.taken c.close.new.out) c.failed.result c.close.result c.close.ensures.closed
     (λ out. subst (IsRun job c.args.budget (g.K.Sink.taken c.args.out.now) (g.K.Sink.taken c.close.new.out)) (sym c.failed.ensures)
@@ -26,8 +26,8 @@ returns-in_default-clause-run g c =
 
 pub returns-then-matches-clause-run : goal.returns-then-matches-clause-run
 returns-then-matches-clause-run g c =
-    let job = program_job c.args.program.now (world_meant c.args.machine.world) in
-    let h = comes_to (program_job c.args.program.now (world_meant c.args.machine.world)) c.args.program.now c.loop-ran.machine c.go_on.new.self c.loop-ran.next c.loop-ran.taken (c.args.budget - c.loop-ran.taken) c.in-Ok.ran c.loop-ran.waiting.bytes.items (g.K.Sink.taken c.args.out.now) (g.K.Sink.taken c.loop-ran.out) (g.K.Sink.faults c.args.out.now) (g.K.Sink.faults c.loop-ran.out) c.loop-ran.invariant.0 c.in-Ok.ensures.comes c.in-Ok.ensures.others in
+    let job = program_job c.args.program.now (world_meant c.args.machine.now.world) in
+    let h = comes_to (program_job c.args.program.now (world_meant c.args.machine.now.world)) c.args.program.now c.loop-ran.machine c.go_on.new.self c.loop-ran.next c.loop-ran.taken (c.args.budget - c.loop-ran.taken) c.in-Ok.ran c.loop-ran.waiting.bytes.items (g.K.Sink.taken c.args.out.now) (g.K.Sink.taken c.loop-ran.out) (g.K.Sink.faults c.args.out.now) (g.K.Sink.faults c.loop-ran.out) c.loop-ran.invariant.0 c.in-Ok.ensures.comes c.in-Ok.ensures.others in
     let within : c.loop-ran.taken + c.in-Ok.ran.taken ≤ c.args.budget = omega (arith, c.in-Ok.ensures.comes.within, c.loop-ran.invariant.1) in
     closed job c.args.budget c.loop-ran.waiting.bytes.items (g.K.Sink.taken c.args.out.now) (g.K.Sink.taken c.loop-ran.out) (g.K.Sink.taken c.close-then-matches.new.out) c.ended-end.result c.close-then-matches.result c.close-then-matches.ensures.closed
     (λ out. subst (IsRun job c.args.budget (g.K.Sink.taken c.args.out.now) (g.K.Sink.taken c.close-then-matches.new.out)) (sym c.ended-end.ensures)
@@ -38,8 +38,8 @@ returns-then-matches-clause-run g c =
 
 pub returns-then-taken-budget-clause-run : goal.returns-then-taken-budget-clause-run
 returns-then-taken-budget-clause-run g c =
-    let job = program_job c.args.program.now (world_meant c.args.machine.world) in
-    let h = comes_to (program_job c.args.program.now (world_meant c.args.machine.world)) c.args.program.now c.loop-ran.machine c.go_on.new.self c.loop-ran.next c.loop-ran.taken (c.args.budget - c.loop-ran.taken) c.in-Ok.ran c.loop-ran.waiting.bytes.items (g.K.Sink.taken c.args.out.now) (g.K.Sink.taken c.loop-ran.out) (g.K.Sink.faults c.args.out.now) (g.K.Sink.faults c.loop-ran.out) c.loop-ran.invariant.0 c.in-Ok.ensures.comes c.in-Ok.ensures.others in
+    let job = program_job c.args.program.now (world_meant c.args.machine.now.world) in
+    let h = comes_to (program_job c.args.program.now (world_meant c.args.machine.now.world)) c.args.program.now c.loop-ran.machine c.go_on.new.self c.loop-ran.next c.loop-ran.taken (c.args.budget - c.loop-ran.taken) c.in-Ok.ran c.loop-ran.waiting.bytes.items (g.K.Sink.taken c.args.out.now) (g.K.Sink.taken c.loop-ran.out) (g.K.Sink.faults c.args.out.now) (g.K.Sink.faults c.loop-ran.out) c.loop-ran.invariant.0 c.in-Ok.ensures.comes c.in-Ok.ensures.others in
     let within : c.loop-ran.taken + c.in-Ok.ran.taken ≤ c.args.budget = omega (arith, c.in-Ok.ensures.comes.within, c.loop-ran.invariant.1) in
     closed job c.args.budget c.loop-ran.waiting.bytes.items (g.K.Sink.taken c.args.out.now) (g.K.Sink.taken c.loop-ran.out) (g.K.Sink.taken c.close-then-taken-budget.new.out) c.ended-end-then-taken-budget.result c.close-then-taken-budget.result c.close-then-taken-budget.ensures.closed
     (λ out. subst (IsRun job c.args.budget (g.K.Sink.taken c.args.out.now) (g.K.Sink.taken c.close-then-taken-budget.new.out)) (sym c.ended-end-then-taken-budget.ensures)
@@ -49,14 +49,14 @@ returns-then-taken-budget-clause-run g c =
 
 pub step-requires-clause-few : goal.step-requires-clause-few
 step-requires-clause-few g c =
-    let h = comes_to (program_job c.args.program.now (world_meant c.args.machine.world)) c.args.program.now c.loop-ran.machine c.go_on.new.self c.loop-ran.next c.loop-ran.taken (c.args.budget - c.loop-ran.taken) c.in-Ok.ran c.loop-ran.waiting.bytes.items (g.K.Sink.taken c.args.out.now) (g.K.Sink.taken c.loop-ran.out) (g.K.Sink.faults c.args.out.now) (g.K.Sink.faults c.loop-ran.out) c.loop-ran.invariant.0 c.in-Ok.ensures.comes c.in-Ok.ensures.others in
+    let h = comes_to (program_job c.args.program.now (world_meant c.args.machine.now.world)) c.args.program.now c.loop-ran.machine c.go_on.new.self c.loop-ran.next c.loop-ran.taken (c.args.budget - c.loop-ran.taken) c.in-Ok.ran c.loop-ran.waiting.bytes.items (g.K.Sink.taken c.args.out.now) (g.K.Sink.taken c.loop-ran.out) (g.K.Sink.faults c.args.out.now) (g.K.Sink.faults c.loop-ran.out) c.loop-ran.invariant.0 c.in-Ok.ensures.comes c.in-Ok.ensures.others in
     let within : c.loop-ran.taken + c.in-Ok.ran.taken ≤ c.args.budget = omega (arith, c.in-Ok.ensures.comes.within, c.loop-ran.invariant.1) in
-    let few = few_answers (program_job c.args.program.now (world_meant c.args.machine.world)) c.args.program.now c.go_on.new.self (next_halt c.loop-ran.next) c.in-Ok.ran.stop (c.loop-ran.taken + c.in-Ok.ran.taken) _ _ _ _ _ h in
+    let few = few_answers (program_job c.args.program.now (world_meant c.args.machine.now.world)) c.args.program.now c.go_on.new.self (next_halt c.loop-ran.next) c.in-Ok.ran.stop (c.loop-ran.taken + c.in-Ok.ran.taken) _ _ _ _ _ h in
     omega (arith, few, within, c.if-taken-budget.false, c.ranges.budget.fits)
 
 pub returns-in-Err-clause-run : goal.returns-in-Err-clause-run
 returns-in-Err-clause-run g c =
-    let job = program_job c.args.program.now (world_meant c.args.machine.world) in
+    let job = program_job c.args.program.now (world_meant c.args.machine.now.world) in
     let program = c.args.program.now in
     let m = c.go_on.new.self in
     let s = c.in-Ok.ran.stop in
@@ -66,7 +66,7 @@ returns-in-Err-clause-run g c =
     let now = g.K.Sink.taken c.loop-ran.out in
     let fb = g.K.Sink.faults c.args.out.now in
     let fn = g.K.Sink.faults c.loop-ran.out in
-    let h = comes_to (program_job c.args.program.now (world_meant c.args.machine.world)) c.args.program.now c.loop-ran.machine c.go_on.new.self c.loop-ran.next c.loop-ran.taken (c.args.budget - c.loop-ran.taken) c.in-Ok.ran c.loop-ran.waiting.bytes.items (g.K.Sink.taken c.args.out.now) (g.K.Sink.taken c.loop-ran.out) (g.K.Sink.faults c.args.out.now) (g.K.Sink.faults c.loop-ran.out) c.loop-ran.invariant.0 c.in-Ok.ensures.comes c.in-Ok.ensures.others in
+    let h = comes_to (program_job c.args.program.now (world_meant c.args.machine.now.world)) c.args.program.now c.loop-ran.machine c.go_on.new.self c.loop-ran.next c.loop-ran.taken (c.args.budget - c.loop-ran.taken) c.in-Ok.ran c.loop-ran.waiting.bytes.items (g.K.Sink.taken c.args.out.now) (g.K.Sink.taken c.loop-ran.out) (g.K.Sink.faults c.args.out.now) (g.K.Sink.faults c.loop-ran.out) c.loop-ran.invariant.0 c.in-Ok.ensures.comes c.in-Ok.ensures.others in
     let left : IsLeft s = (elim c.match-matches.branch [ in-AllDone w ↦ absurd (true_false w.matches-is c.if-matches.false) | in_default-matches w ↦ is_left c.in-Ok.ran.stop (λ e. w.in_default-matches.not-AllDone e) ]) in
     let still = subst (λ o. HasStopped job program m o s i waiting before now fb fn) (not_halted job program m (next_halt c.loop-ran.next) s i waiting before now fb fn h left) h in
     let within : i ≤ c.args.budget = omega (arith, c.in-Ok.ensures.comes.within, c.loop-ran.invariant.1) in
@@ -77,7 +77,7 @@ returns-in-Err-clause-run g c =
 
 pub returns-in-Err-take-clause-run : goal.returns-in-Err-take-clause-run
 returns-in-Err-take-clause-run g c =
-    let job = program_job c.args.program.now (world_meant c.args.machine.world) in
+    let job = program_job c.args.program.now (world_meant c.args.machine.now.world) in
     let program = c.args.program.now in
     let m = c.go_on.new.self in
     let s = c.in-Ok.ran.stop in
@@ -87,7 +87,7 @@ returns-in-Err-take-clause-run g c =
     let now = g.K.Sink.taken c.loop-ran.out in
     let fb = g.K.Sink.faults c.args.out.now in
     let fn = g.K.Sink.faults c.loop-ran.out in
-    let h = comes_to (program_job c.args.program.now (world_meant c.args.machine.world)) c.args.program.now c.loop-ran.machine c.go_on.new.self c.loop-ran.next c.loop-ran.taken (c.args.budget - c.loop-ran.taken) c.in-Ok.ran c.loop-ran.waiting.bytes.items (g.K.Sink.taken c.args.out.now) (g.K.Sink.taken c.loop-ran.out) (g.K.Sink.faults c.args.out.now) (g.K.Sink.faults c.loop-ran.out) c.loop-ran.invariant.0 c.in-Ok.ensures.comes c.in-Ok.ensures.others in
+    let h = comes_to (program_job c.args.program.now (world_meant c.args.machine.now.world)) c.args.program.now c.loop-ran.machine c.go_on.new.self c.loop-ran.next c.loop-ran.taken (c.args.budget - c.loop-ran.taken) c.in-Ok.ran c.loop-ran.waiting.bytes.items (g.K.Sink.taken c.args.out.now) (g.K.Sink.taken c.loop-ran.out) (g.K.Sink.faults c.args.out.now) (g.K.Sink.faults c.loop-ran.out) c.loop-ran.invariant.0 c.in-Ok.ensures.comes c.in-Ok.ensures.others in
     let left : IsLeft s = (elim c.match-matches.branch [ in-AllDone w ↦ absurd (true_false w.matches-is c.if-matches.false) | in_default-matches w ↦ is_left c.in-Ok.ran.stop (λ e. w.in_default-matches.not-AllDone e) ]) in
     let still = subst (λ o. HasStopped job program m o s i waiting before now fb fn) (not_halted job program m (next_halt c.loop-ran.next) s i waiting before now fb fn h left) h in
     let within : i ≤ c.args.budget = omega (arith, c.in-Ok.ensures.comes.within, c.loop-ran.invariant.1) in
@@ -98,7 +98,7 @@ returns-in-Err-take-clause-run g c =
 
 pub loop-ran-preserved : goal.loop-ran-preserved
 loop-ran-preserved g c =
-    let job = program_job c.args.program.now (world_meant c.args.machine.world) in
+    let job = program_job c.args.program.now (world_meant c.args.machine.now.world) in
     let program = c.args.program.now in
     let m = c.go_on.new.self in
     let s = c.in-Ok.ran.stop in
@@ -108,7 +108,7 @@ loop-ran-preserved g c =
     let now = g.K.Sink.taken c.loop-ran.out in
     let fb = g.K.Sink.faults c.args.out.now in
     let fn = g.K.Sink.faults c.loop-ran.out in
-    let h = comes_to (program_job c.args.program.now (world_meant c.args.machine.world)) c.args.program.now c.loop-ran.machine c.go_on.new.self c.loop-ran.next c.loop-ran.taken (c.args.budget - c.loop-ran.taken) c.in-Ok.ran c.loop-ran.waiting.bytes.items (g.K.Sink.taken c.args.out.now) (g.K.Sink.taken c.loop-ran.out) (g.K.Sink.faults c.args.out.now) (g.K.Sink.faults c.loop-ran.out) c.loop-ran.invariant.0 c.in-Ok.ensures.comes c.in-Ok.ensures.others in
+    let h = comes_to (program_job c.args.program.now (world_meant c.args.machine.now.world)) c.args.program.now c.loop-ran.machine c.go_on.new.self c.loop-ran.next c.loop-ran.taken (c.args.budget - c.loop-ran.taken) c.in-Ok.ran c.loop-ran.waiting.bytes.items (g.K.Sink.taken c.args.out.now) (g.K.Sink.taken c.loop-ran.out) (g.K.Sink.faults c.args.out.now) (g.K.Sink.faults c.loop-ran.out) c.loop-ran.invariant.0 c.in-Ok.ensures.comes c.in-Ok.ensures.others in
     let left : IsLeft s = (elim c.match-matches.branch [ in-AllDone w ↦ absurd (true_false w.matches-is c.if-matches.false) | in_default-matches w ↦ is_left c.in-Ok.ran.stop (λ e. w.in_default-matches.not-AllDone e) ]) in
     let still = subst (λ o. HasStopped job program m o s i waiting before now fb fn) (not_halted job program m (next_halt c.loop-ran.next) s i waiting before now fb fn h left) h in
     let within : i ≤ c.args.budget = omega (arith, c.in-Ok.ensures.comes.within, c.loop-ran.invariant.1) in
@@ -121,7 +121,7 @@ loop-ran-preserved g c =
 
 pub step-requires-clause-stop : goal.step-requires-clause-stop
 step-requires-clause-stop g c =
-    let job = program_job c.args.program.now (world_meant c.args.machine.world) in
+    let job = program_job c.args.program.now (world_meant c.args.machine.now.world) in
     let program = c.args.program.now in
     let m = c.go_on.new.self in
     let s = c.in-Ok.ran.stop in
@@ -131,7 +131,7 @@ step-requires-clause-stop g c =
     let now = g.K.Sink.taken c.loop-ran.out in
     let fb = g.K.Sink.faults c.args.out.now in
     let fn = g.K.Sink.faults c.loop-ran.out in
-    let h = comes_to (program_job c.args.program.now (world_meant c.args.machine.world)) c.args.program.now c.loop-ran.machine c.go_on.new.self c.loop-ran.next c.loop-ran.taken (c.args.budget - c.loop-ran.taken) c.in-Ok.ran c.loop-ran.waiting.bytes.items (g.K.Sink.taken c.args.out.now) (g.K.Sink.taken c.loop-ran.out) (g.K.Sink.faults c.args.out.now) (g.K.Sink.faults c.loop-ran.out) c.loop-ran.invariant.0 c.in-Ok.ensures.comes c.in-Ok.ensures.others in
+    let h = comes_to (program_job c.args.program.now (world_meant c.args.machine.now.world)) c.args.program.now c.loop-ran.machine c.go_on.new.self c.loop-ran.next c.loop-ran.taken (c.args.budget - c.loop-ran.taken) c.in-Ok.ran c.loop-ran.waiting.bytes.items (g.K.Sink.taken c.args.out.now) (g.K.Sink.taken c.loop-ran.out) (g.K.Sink.faults c.args.out.now) (g.K.Sink.faults c.loop-ran.out) c.loop-ran.invariant.0 c.in-Ok.ensures.comes c.in-Ok.ensures.others in
     let left : IsLeft s = (elim c.match-matches.branch [ in-AllDone w ↦ absurd (true_false w.matches-is c.if-matches.false) | in_default-matches w ↦ is_left c.in-Ok.ran.stop (λ e. w.in_default-matches.not-AllDone e) ]) in
     let still = subst (λ o. HasStopped job program m o s i waiting before now fb fn) (not_halted job program m (next_halt c.loop-ran.next) s i waiting before now fb fn h left) h in
     let within : i ≤ c.args.budget = omega (arith, c.in-Ok.ensures.comes.within, c.loop-ran.invariant.1) in

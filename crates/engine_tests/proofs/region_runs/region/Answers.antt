@@ -3,7 +3,7 @@ use Rattle.cell_store.specs.StoreView.{with_numbers}
 use Rattle.region_split.specs.QueryEnds.{MayComeOver}
 use Rattle.region_split.specs.Regions.{RegionView}
 use Rattle.region_split.specs.declared.choice.Alternatives.TheVariants.{QueryEnd}
-use Rattle.run_tests.proofs.runs.region.Goals as goal
+use Rattle.engine_tests.proofs.region_runs.region.Goals as goal
 
 pub set_floor-requires : goal.set_floor-requires
 set_floor-requires c = ap (λ (r : RegionView). r.choices) (c.in_ok-fresh.ensures.ok ∙ ap (λ (r : RegionView). record r { store = with_numbers c.args.variables r.store }) c.in_ok-region.ensures)
