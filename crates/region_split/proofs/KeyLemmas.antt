@@ -1,11 +1,13 @@
 -- Numbers of goals that are values.
-use Rattle.std.proofs.Common.{◌≡◌, ℕ, zero, suc, ◌+◌, ◌<◌, Option, None, refl, sym, ap, ◌∙◌, subst, arith}
+use Rattle.std.proofs.Common.{◌≡◌, ℕ, zero, suc, ◌+◌, ◌<◌, List, Option, Some, None, refl, sym, ap, ◌∙◌, subst, arith}
+use Rattle.std.specs.Prelude.{IfSome}
 use Rattle.au_term.specs.Term.{Compound as CompoundTerm, Terms, count, term_at, argument, argument_count}
 use Rattle.au_model.specs.Terms.Forms.{name_of, is_callable}
 use Rattle.au_model.specs.Terms.Lists.{terms_from}
 use Rattle.au_model.specs.Terms.Substitutions.{resolve, apply_all, value_of}
 use Rattle.clause_compile.specs.AtomNumbers.{name_at}
 use Rattle.proc_index.specs.Keys.{key_of, head_key, first_key_of}
+use Rattle.proc_index.specs.declared.key.Key.{Key}
 use Rattle.proc_index.specs.declared.key.Key.TheVariants.{Functor as FunctorKey}
 use Rattle.clause_index.specs.HeadKeys.{IsHeadKeyOf, IsKeyAmong, named_key}
 use Rattle.clause_index.specs.declared.key.NumberKey.{NumberKey}
@@ -60,8 +62,14 @@ module _ (st : StoreView) (value : BindingCell) (at base f n : ℕ) (d : IsDeref
   pub further_there : (i : ℕ) → i < n → IsArgument (text_in st) st.now.next base (at + 1 + i)
   further_there i lt = (indexed st st.now.next base n (at + 1) i lt h.arguments).0
 
+  pub further_within : (i : ℕ) → i < n → i < argument_count (meaning st value)
+  further_within i lt = subst (λ m. i < m) (counted ∙ ap argument_count opened) lt
+
+  pub further_argument : (i : ℕ) (found : BindingCell) → i < n → value_term st found ≡ argument_at (text_in st) base (at + 1 + i) → meaning st found ≡ argument i (meaning st value)
+  further_argument i found lt e = ap (resolve (substitution st)) e ∙ (sym (indexed st st.now.next base n (at + 1) i lt h.arguments).1 ∙ ap (argument i) opened)
+
   pub further_key : (i : ℕ) (found : BindingCell) → i < n → value_term st found ≡ argument_at (text_in st) base (at + 1 + i) → key_of (meaning st found) ≡ key_of (argument i (meaning st value))
-  further_key i found lt e = ap (λ t. key_of (resolve (substitution st) t)) e ∙ (ap key_of (sym (indexed st st.now.next base n (at + 1) i lt h.arguments).1) ∙ ap (λ t. key_of (argument i t)) opened)
+  further_key i found lt e = ap key_of (further_argument i found lt e)
 
   pub compound_numbers : (first : BindingCell) (o : Option NumberKey) → value_term st first ≡ argument_at (text_in st) base (at + 1) → IsKeyAmong (text_in st).names o → named_key (text_in st).names o ≡ key_of (meaning st first)
       → IsHeadKeyOf (text_in st).names (meaning st value) (record { name = f; arity = n; first = o })
@@ -74,6 +82,11 @@ module _ (st : StoreView) (value : BindingCell) (at base f n : ℕ) (d : IsDeref
         key_there = there;
         first = key ∙ first_key first e;
       }
+
+-- a key that is there is that of a term
+pub if_some_key : (names : List (List ℕ)) (o : Option NumberKey) (k : Key) → named_key names o ≡ k → IfSome o (λ key. named_key names (Some key) ≡ k)
+if_some_key names None k e = tt
+if_some_key names (Some key) k e = e
 
 pub atom_numbers : (st : StoreView) (value : BindingCell) (a : ℕ) → IsDereferenced st value (Atom a) → IsHeadKeyOf (text_in st).names (meaning st value) (record { name = a; arity = 0; first = None })
 atom_numbers st value a d = subst (λ t. IsHeadKeyOf (text_in st).names t (record { name = a; arity = 0; first = None })) d.same (record { callable = refl; name_there = d.there; name = refl; arity = refl; key_there = tt; first = refl })

@@ -6,7 +6,11 @@ use Rattle.au_model.specs.Terms.Each.{Each}
 use Rattle.au_model.specs.Terms.Lists.{terms_from}
 use Rattle.au_model.specs.Terms.Copies.{renamed}
 use Rattle.au_model.specs.Terms.Forms.{same_name}
-use Rattle.au_model.specs.Terms.Substitutions.{apply}
+use Rattle.au_model.specs.Terms.MostGeneral.{IsUnifierAnswer}
+use Rattle.au_model.specs.Terms.Substitutions.{Substitution, apply, value_of}
+use Rattle.au_model.proofs.UnifierRuleLemmas.{count-apply_all}
+use Rattle.au_model.proofs.UnifierLemmas.{unifier_answers}
+use Rattle.std.specs.Prelude.{IfSome}
 use Rattle.au_model.specs.Terms.Unifier.{unifier}
 use Rattle.clause_compile.specs.AtomNumbers.{name_at, AreDistinct}
 use Rattle.clause_compile.specs.Places.{CodeView, AreSound, IsPlaceOf, IsPlaceBefore, meaning_in}
@@ -45,6 +49,30 @@ argument_there (IntTerm z) i e = some_argument end i e
 argument_there (AtomTerm a) i e = some_argument end i e
 argument_there (CompoundTerm f ts) i e = some_argument ts i e
 
+-- a term with an argument that has a key has one itself
+inner_key_there : (t : Term) (j : ℕ) → is_any (key_of (argument j t)) ≡ false → is_any (key_of t) ≡ false
+inner_key_there (VarTerm n) j e = let none = ap is_any (no_arguments j) in absurd cc
+inner_key_there (IntTerm z) j e = refl
+inner_key_there (AtomTerm a) j e = refl
+inner_key_there (CompoundTerm f ts) j e = refl
+
+renamed_count : (vs : List ℕ) (next : ℕ) (t : Term) → argument_count (apply (renamed vs next) t) ≡ argument_count t
+renamed_count vs next (VarTerm n) = refl
+renamed_count vs next (IntTerm z) = refl
+renamed_count vs next (AtomTerm a) = refl
+renamed_count vs next (CompoundTerm f ts) = count-apply_all (renamed vs next) ts
+
+-- terms do not unify where two arguments of theirs do not
+apart_inside : (goal head : Term) (i : ℕ) → i < argument_count goal → i < argument_count head → unifier ((argument i goal, argument i head) ∷ []) ≡ None → unifier ((goal, head) ∷ []) ≡ None
+apart_inside goal head i l m e = by_answer (unifier ((goal, head) ∷ [])) (unifier_answers ((goal, head) ∷ []))
+  where
+    none : IsUnifierAnswer None ((argument i goal, argument i head) ∷ [])
+    none = subst (λ o. IsUnifierAnswer o ((argument i goal, argument i head) ∷ [])) e (unifier_answers ((argument i goal, argument i head) ∷ []))
+
+    by_answer : (o : Option Substitution) → IsUnifierAnswer o ((goal, head) ∷ []) → o ≡ None
+    by_answer None h = refl
+    by_answer (Some s) h = absurd (none (value_of s) (sym (argument_resolved (value_of s) goal i l) ∙ (ap (argument i) h.unifies.0 ∙ argument_resolved (value_of s) head i m), tt))
+
 module _ (names : List (List ℕ)) (distinct : AreDistinct names) where
   differ : (k l : NumberKey) → IsKeyAmong names (Some k) → IsKeyAmong names (Some l) → same_number_key k l ≡ false → tell_apart (named_key names (Some k)) (named_key names (Some l)) ≡ true
   differ (Int y) (Int z) p q e = ap not e
@@ -77,6 +105,18 @@ module _ (names : List (List ℕ)) (distinct : AreDistinct names) where
       not_true : (b : Bool) → not b ≡ true → b ≡ false
       not_true true h = absurd cc
       not_true false h = refl
+
+  -- and of arguments of theirs
+  pub told_inside : (goal head : Term) (i j : ℕ) (k l : Option NumberKey) → IsKeyAmong names k → IsKeyAmong names l → IfSome k (λ x. named_key names (Some x) ≡ key_of (argument j (argument i goal))) → named_key names l ≡ key_of (argument j (argument i head)) → numbers_differ k l ≡ true
+      → i < argument_count goal → (vs : List ℕ) (next : ℕ) → unifier ((goal, apply (renamed vs next) head) ∷ []) ≡ None
+  told_inside goal head i j None l p q e f d within vs next = absurd cc
+  told_inside goal head i j (Some k) None p q e f d within vs next = absurd cc
+  told_inside goal head i j (Some k) (Some l) p q e f d within vs next =
+      let r = renamed vs next in
+      let there : i < argument_count head = argument_there head i (inner_key_there (argument i head) j (ap is_any (sym f) ∙ some_key l)) in
+      let kept = argument_resolved r head i there in
+      let none = told (argument i goal) (argument i head) j (Some k) (Some l) p q e f d vs next in
+      apart_inside goal (apply r head) i within (subst (λ n. i < n) (sym (renamed_count vs next head)) there) (ap (λ t. unifier ((argument i goal, t) ∷ [])) kept ∙ none)
 
 -- the argument at a place of a compound
 term_there : (f : Place → Term) (ps : List Place) (n i : ℕ) (p : Place) (rest : List Place) → i < n → drop i ps ≡ p ∷ rest → term_at i (terms_from (map f (take n ps))) ≡ f p
@@ -123,6 +163,15 @@ module _ (code : CodeView) (at f n i : ℕ) (h : IsFunctorAt code at f n) where
 pub functor_read : (code : CodeView) (p : Place) (at f n : ℕ) → IsPlaceOf code (Sub at) → AreSound (length code.names) code.places → drop at code.places ≡ p ∷ drop (at + 1) code.places → p ≡ FunctorPlace f n → IsFunctorAt code at f n
 functor_read code p at f n there sound read functor =
     functor_is code at f n sound there.1 (read ∙ ap (λ q. q ∷ drop (at + 1) code.places) functor)
+
+-- the same inside of an argument
+pub told_inside_here : (st : StoreView) (text : TextView) (goal : Term) (c : Clause) (i j next : ℕ) (k l : Option NumberKey) → st.program ≡ text.code → IsValidStore st → IsKeyAmong (text_in st).names k
+    → IfSome k (λ x. named_key (text_in st).names (Some x) ≡ key_of (argument j (argument i goal))) → IsKeyAmong text.code.names l → named_key text.code.names l ≡ key_of (argument j (argument i c.head)) → numbers_differ k l ≡ true
+    → i < argument_count goal → unifier ((goal, renamed_head c next) ∷ []) ≡ None
+told_inside_here st text goal c i j next k l program valid there key head_there head_key d within =
+    let own = subst (λ (code : CodeView). IsKeyAmong code.names l) (sym program) head_there in
+    let own_key = subst (λ (code : CodeView). named_key code.names l ≡ key_of (argument j (argument i c.head))) (sym program) head_key in
+    told_inside (text_in st).names valid.distinct goal c.head i j k l there (among st.program.names st.names l own) key (same_named_key st.program.names st.names l own ∙ own_key) d within (clause_variables c) next
 
 -- a clause whose head has another key where the goal has one
 pub told_here : (st : StoreView) (text : TextView) (goal : Term) (c : Clause) (i next : ℕ) (k l : Option NumberKey) → st.program ≡ text.code → IsValidStore st → IsKeyAmong (text_in st).names k → named_key (text_in st).names k ≡ key_of (argument i goal)

@@ -1,5 +1,6 @@
 -- A program's text.
-use Rattle.std.specs.Prelude.{◌≡◌, ◌≤◌, ℕ, true, List, [], ◌∷◌, ◌++◌, map, drop}
+use Rattle.std.specs.Prelude.{◌≡◌, ◌≤◌, ℕ, true, List, [], ◌∷◌, ◌++◌, map, drop, Option, MatchOption}
+use Rattle.au_term.specs.Term.{Term, argument}
 use Rattle.au_model.specs.Terms.Forms.{is_callable}
 use Rattle.au_model.specs.Terms.Each.{Each}
 use Rattle.run_model.specs.Programs.Bodies.{clause_goals_of}
@@ -8,6 +9,8 @@ use Rattle.clause_compile.specs.ClauseInvariant.{numbers_from}
 use Rattle.clause_compile.specs.CompiledClauses.{clause_bound}
 use Rattle.clause_compile.specs.Places.{CodeView, Keeps, IsPlaceOf, meaning_in}
 use Rattle.clause_compile.specs.declared.place.Place.{Place}
+use Rattle.proc_index.specs.Keys.{key_of}
+use Rattle.proc_index.specs.declared.key.Key.TheVariants.{Any}
 use Rattle.clause_index.specs.HeadKeys.{IsHeadKeyOf}
 use Rattle.clause_index.specs.declared.key.HeadKey.{HeadKey}
 use Rattle.region_split.specs.declared.text.BodyItem.{BodyItem}
@@ -24,6 +27,10 @@ pub record TextView : Type 0 where
 -- a body of these goals
 abbrev pub body_items : List Place → List BodyItem
 body_items goals = map Goal goals ++ BodyEnd ∷ []
+
+-- the place of an argument of a term, counted from 0, or that there is none
+abbrev pub IsArgumentPlace : CodeView → Term → ℕ → Option Place → Type 0
+IsArgumentPlace code t i found = MatchOption found (key_of (argument i t) ≡ Any) (λ p. IsPlaceOf code p × (meaning_in code p ≡ argument i t))
 
 -- where a clause is: a place means its head, places of the goals of its body stand one after another, and its variables are
 -- numbered from 0

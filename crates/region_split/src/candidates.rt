@@ -1,8 +1,10 @@
 //! The clauses that a goal may match.
-ghost use Rattle.std.specs.Prelude.{◌≡◌, ◌<◌, IfSome, MatchOption, length, true};
+ghost use Rattle.std.specs.Prelude.{◌≡◌, ◌<◌, IfSome, MatchOption, Some, length, true};
+ghost use Rattle.au_term.specs.Term.{argument};
+ghost use Rattle.proc_index.specs.Keys.{key_of};
 ghost use Rattle.cell_store.specs.StoreView.{IsValueIn, meaning, text_in};
 ghost use Rattle.clause_index.specs.Classes.{can_match};
-ghost use Rattle.clause_index.specs.HeadKeys.{IsHeadKeyOf};
+ghost use Rattle.clause_index.specs.HeadKeys.{IsHeadKeyOf, IsKeyAmong, named_key};
 ghost use Rattle.clause_index.specs.Numbers.{numbers, only_of};
 ghost use Rattle.clause_index.specs.Cursors.{IsCursorOf};
 ghost use Rattle.region_split.specs.Candidates.{AreCandidates, IsOnlyCandidate, FindsClause, HaveNoEntry, AreToldApart, numbers_differ};
@@ -84,8 +86,8 @@ pub(crate) fn first_match(
     next_match(text, store, goal, left)
 }
 
-/// Whether a goal's second, third or fourth argument tells it apart from a clause's head, so that they don't unify. Nothing is
-/// read of the goal where none of these has a key in the head.
+/// Whether a goal's second, third or fourth argument tells it apart from a clause's head, so that they don't unify, or an argument
+/// inside of one where the head has a constant. Nothing is read of the goal where none of these has a key in the head.
 #[inline]
 fn are_apart(text: &Text, store: &Store, goal: BindingCell, clause: u32) -> bool
     requires program { store.now.program ≡ text.now.code }
@@ -96,13 +98,22 @@ fn are_apart(text: &Text, store: &Store, goal: BindingCell, clause: u32) -> bool
     // The proof reads off that no two names are the same.
     let _next = store.next();
     let placed = text.placed(clause);
-    if placed.keyed_from >= placed.keyed_to {
+    if placed.keyed_from >= placed.keyed_to && placed.inner.is_none() {
         return false;
     }
     let BindingCell::Compound(at, base) = store.dereference(goal) else {
         return false;
     };
     let (_name, count) = store.functor(at);
+    if let Some(inner) = placed.inner {
+        if inner.of < count {
+            let own = store.argument(at + 1 + inner.of, base);
+            let own = inner_key_of_value(store, own, inner.number);
+            if tell_apart(own, text.inner_key(clause, inner)) {
+                return true;
+            }
+        }
+    }
     for i in placed.keyed_from..placed.keyed_to.min(count) {
         let own = key_of_value(store, store.argument(at + 1 + i, base));
         if tell_apart(own, text.argument_key(clause, i)) {
@@ -110,6 +121,23 @@ fn are_apart(text: &Text, store: &Store, goal: BindingCell, clause: u32) -> bool
         }
     }
     false
+}
+
+/// The key of an argument of what a value stands for; none where that is no compound, or has no such argument.
+#[inline(always)]
+fn inner_key_of_value(store: &Store, value: BindingCell, number: u32) -> Option<NumberKey>
+    requires { IsValueIn store.now value }
+    ensures there { IsKeyAmong (text_in store.now).names result }
+    ensures key { IfSome result (λ key. named_key (text_in store.now).names (Some key) ≡ key_of (argument number (meaning store.now value))) }
+{
+    let BindingCell::Compound(at, base) = store.dereference(value) else {
+        return None;
+    };
+    let (_name, count) = store.functor(at);
+    if number >= count {
+        return None;
+    }
+    key_of_value(store, store.argument(at + 1 + number, base))
 }
 
 /// Whether two keys differ.

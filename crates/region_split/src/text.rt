@@ -10,7 +10,7 @@ ghost use Rattle.std.specs.List.{list_any};
 ghost use Rattle.clause_index.specs.Classes.{can_match, is_head_of};
 ghost use Rattle.clause_index.specs.Cursors.{IsCursorOf, numbers_left, TakesLeast};
 ghost use Rattle.clause_index.specs.Numbers.{numbers, only_of};
-ghost use Rattle.region_split.specs.Texts.{body_items, IsPlacedClause, ArePlacedClauses, AreHeadKeys, AddsClause};
+ghost use Rattle.region_split.specs.Texts.{body_items, IsArgumentPlace, IsPlacedClause, ArePlacedClauses, AreHeadKeys, AddsClause};
 
 use au_term::NoMemory;
 use clause_compile::{Clause, Code, Place};
@@ -26,9 +26,16 @@ pub enum BodyItem {
     BodyEnd,
 }
 
+/// An argument of an argument, both counted from 0.
+#[derive(Clone, Copy, Debug, PartialEq, Eq)]
+pub struct InnerArgument {
+    pub of: u32,
+    pub number: u32,
+}
+
 /// Where a clause is: the place of its head, and where its body begins among the bodies; and how many variables it has. Only
-/// arguments of the head from `keyed_from` on and before `keyed_to` are looked at to tell a goal apart, counted from 0; of the
-/// second to the fourth the others have no key.
+/// arguments of the head from `keyed_from` on and before `keyed_to` are looked at to tell a goal apart, counted from 0, of the
+/// second to the fourth the others have no key; and the first constant that stands inside of one of the first four.
 #[derive(Clone, Copy, Debug, PartialEq, Eq)]
 pub struct PlacedClause {
     pub head: Place,
@@ -36,6 +43,7 @@ pub struct PlacedClause {
     pub vars: u32,
     pub keyed_from: u32,
     pub keyed_to: u32,
+    pub inner: Option<InnerArgument>,
 }
 
 /// A program's text: its places, its bodies, and its clauses. It knows where each clause is, and finds those that a goal may
@@ -164,6 +172,16 @@ impl Text {
         argument_key(&self.code, self.placed(clause).head, i)
     }
 
+    /// The key of an argument of an argument of a clause's head; none for a variable, and where there is no such argument.
+    #[inline]
+    pub(crate) fn inner_key(&self, clause: u32, inner: InnerArgument) -> Option<NumberKey>
+        requires { clause < length self.now.clauses }
+        ensures there { IsKeyAmong self.now.code.names result }
+        ensures key { (c : ClauseTerms) → slice_get self.now.clauses clause ≡ Some c → named_key self.now.code.names result ≡ key_of (argument inner.number (argument inner.of c.head)) }
+    {
+        inner_key(&self.code, self.placed(clause).head, inner)
+    }
+
     /// The item at a place of the bodies, if it is there.
     #[inline(always)]
     pub fn get(&self, at: u32) -> Option<BodyItem>
@@ -212,12 +230,14 @@ fn place_clause(
     }
     push_body(&places.goals, bodies)?;
     let (keyed_from, keyed_to) = keyed_arguments(code, places.head);
+    let inner = first_inner_constant(code, places.head);
     Ok(PlacedClause {
         head: places.head,
         body: body as u32,
         vars: places.vars as u32,
         keyed_from,
         keyed_to,
+        inner,
     })
 }
 
@@ -234,6 +254,39 @@ fn keyed_arguments(code: &Code, head: Place) -> (u32, u32)
         }
     }
     (from, to)
+}
+
+/// The first constant among the arguments of the first four arguments of a head, if there is one.
+fn first_inner_constant(code: &Code, head: Place) -> Option<InnerArgument>
+    requires { IsPlaceOf code.now head }
+{
+    for of in 0..4 {
+        for number in 0..arguments_of_argument(code, head, of) {
+            let inner = InnerArgument { of, number };
+            if is_constant(inner_key(code, head, inner)) {
+                return Some(inner);
+            }
+        }
+    }
+    None
+}
+
+/// How many arguments an argument of the term at a place has.
+fn arguments_of_argument(code: &Code, term: Place, of: u32) -> u32
+    requires { IsPlaceOf code.now term }
+{
+    match argument_key(code, term, of) {
+        Some(NumberKey::Functor(_, count)) => count,
+        _ => 0,
+    }
+}
+
+/// Whether a key is that of an integer or an atom.
+fn is_constant(key: Option<NumberKey>) -> bool {
+    match key {
+        Some(NumberKey::Int(_)) | Some(NumberKey::Atom(_)) => true,
+        _ => false,
+    }
 }
 
 /// Adds the body of these goals.
@@ -254,18 +307,42 @@ fn argument_key(code: &Code, term: Place, i: u32) -> Option<NumberKey>
     ensures there { IsKeyAmong code.now.names result }
     ensures key { named_key code.now.names result ≡ key_of (argument i (meaning_in code.now term)) }
 {
+    match argument_place(code, term, i) {
+        Some(place) => NumberKey::of_place(code, place),
+        None => None,
+    }
+}
+
+/// The key of an argument of an argument of the term at a place.
+#[inline]
+fn inner_key(code: &Code, term: Place, inner: InnerArgument) -> Option<NumberKey>
+    requires { IsPlaceOf code.now term }
+    ensures there { IsKeyAmong code.now.names result }
+    ensures key { named_key code.now.names result ≡ key_of (argument inner.number (argument inner.of (meaning_in code.now term))) }
+{
+    match argument_place(code, term, inner.of) {
+        Some(place) => argument_key(code, place, inner.number),
+        None => None,
+    }
+}
+
+/// The place of an argument of the term at a place, counted from 0, if there is such an argument.
+#[inline(always)]
+fn argument_place(code: &Code, term: Place, i: u32) -> Option<Place>
+    requires { IsPlaceOf code.now term }
+    ensures { IsArgumentPlace code.now (meaning_in code.now term) i result }
+{
     match term {
-        Place::Sub(at) | Place::Ground(at) => argument_key_in(code, at, i),
+        Place::Sub(at) | Place::Ground(at) => argument_place_in(code, at, i),
         _ => None,
     }
 }
 
-/// The key of an argument of the compound at a place.
-#[inline]
-fn argument_key_in(code: &Code, at: usize, i: u32) -> Option<NumberKey>
+/// The place of an argument of the compound at a place.
+#[inline(always)]
+fn argument_place_in(code: &Code, at: usize, i: u32) -> Option<Place>
     requires { IsPlaceOf code.now (Place.Sub at) }
-    ensures there { IsKeyAmong code.now.names result }
-    ensures key { named_key code.now.names result ≡ key_of (argument i (meaning_in code.now (Place.Sub at))) }
+    ensures { IsArgumentPlace code.now (meaning_in code.now (Place.Sub at)) i result }
 {
     // The proof reads off that the arguments of compounds stand before them.
     let _places = code.len();
@@ -275,5 +352,5 @@ fn argument_key_in(code: &Code, at: usize, i: u32) -> Option<NumberKey>
     if i >= count {
         return None;
     }
-    NumberKey::of_place(code, code.place(at + 1 + i as usize))
+    Some(code.place(at + 1 + i as usize))
 }

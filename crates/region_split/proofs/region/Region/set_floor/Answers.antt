@@ -1,6 +1,6 @@
-use Rattle.std.proofs.Common.{◌≡◌, [], List, ◌∷◌, length, refl, ap, sym, ◌∙◌, subst, arith}
+use Rattle.std.proofs.Common.{◌≡◌, [], length, ap, sym, ◌∙◌, subst}
 use Rattle.std.specs.Arc.{arc_value}
-use Rattle.cell_store.specs.StoreView.{Moment, StoreView, over_floor}
+use Rattle.cell_store.specs.StoreView.{StoreView, over_floor}
 use Rattle.region_split.specs.Regions.{RegionView, IsConsistentRegion, region_setting}
 use Rattle.region_split.proofs.StandingLemmas.{as_many}
 use Rattle.region_split.proofs.StoreLemmas.{floored_region, none_of_them}

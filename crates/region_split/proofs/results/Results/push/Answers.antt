@@ -1,4 +1,4 @@
-use Rattle.std.proofs.Common.{◌∙◌, ◌∷◌, [], ◌++◌, ap, sym}
+use Rattle.std.proofs.Common.{◌∙◌, ap, sym}
 use Rattle.region_split.specs.ResultLists.{ResultsView, with_copy}
 use Rattle.region_split.proofs.ResultLemmas.{own_copy}
 use Rattle.region_split.proofs.results.Results.push.Goals as goal
