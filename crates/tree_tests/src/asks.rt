@@ -31,11 +31,6 @@ pub(crate) fn is_closed(nodes: &Nodes, at: AltRef) -> bool {
     nodes.is_closed(at)
 }
 
-pub(crate) fn is_ready(rt: &impl Abort, nodes: &Nodes, at: AltRef) -> bool {
-    assert!(rt; nodes.has_alternative(at));
-    matches!(nodes.state(at), AltState::Ready)
-}
-
 pub(crate) fn below(rt: &impl Abort, nodes: &Nodes, at: AltRef) -> Option<u64> {
     assert!(rt; nodes.has_alternative(at));
     nodes.below(at)

@@ -1,7 +1,7 @@
 //! What no clause gives: that cuts and balls are taken in small trees, and what they leave.
 use crate::asks::{below, expect, has, has_alternative, is_pending};
 use crate::closings::nest;
-use crate::slow::{Look, seen};
+use crate::looks::{Look, seen};
 use crate::trees::{add, body, close, place, recorded};
 use clause_compile::Scope;
 use prune_ops::{cut, find_landing, land};

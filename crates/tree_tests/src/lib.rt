@@ -13,19 +13,17 @@ mod hand_outs;
 #[cfg(test)]
 mod large;
 #[cfg(test)]
+mod looks;
+#[cfg(test)]
 mod nodes;
 #[cfg(test)]
 mod pruning;
-#[cfg(test)]
-mod random;
 #[cfg(test)]
 mod readings;
 #[cfg(test)]
 mod results;
 #[cfg(test)]
 mod sides;
-#[cfg(test)]
-mod slow;
 #[cfg(test)]
 mod trails;
 #[cfg(test)]

@@ -1,5 +1,4 @@
 //! What no clause gives: that calls succeed, and what they say of small trees.
-use crate::slow::{Look, common, drawn_node, next_random, path, seen};
 use crate::trees::{add_body, body, place};
 use node_trail::{Legs, path_between};
 use std::alloc::Global;
@@ -74,74 +73,5 @@ fn ways(rt: HostRuntime) -> Result<(), Fail> {
         let (from, to) = (place(from.0, from.1), place(to.0, to.1));
         way(&rt, &nodes, from, to, leave, enter)?;
     }
-    Ok(())
-}
-
-/// Where the segments begin on a way, from a place on: at the first place its node counts only where the way has not yet
-/// come to it.
-fn bases(alloc: Global, way: &[AltRef], from: usize, parts: bool) -> Result<Vec<u64>, Fail> {
-    let mut all = Vec::new(alloc);
-    for i in from..way.len() {
-        let base = way[i].node.wrapping_mul(10);
-        if i > from || !parts {
-            all.push(base)?;
-        }
-        all.push(base.wrapping_add(way[i].alternative.into()).wrapping_add(1))?;
-    }
-    Ok(all)
-}
-
-fn slow_way(
-    rt: &impl Abort,
-    nodes: &Nodes,
-    from: AltRef,
-    to: AltRef,
-    drawn: u64,
-) -> Result<(), Fail> {
-    let alloc = nodes.allocator();
-    let (one, other) = (path(rt, nodes, from, drawn)?, path(rt, nodes, to, drawn)?);
-    let same = common(&one, &other);
-    let parts = same < one.len() && same < other.len();
-    let mut leave = bases(alloc, &one, same, parts)?;
-    leave.reverse();
-    let enter = bases(alloc, &other, same, parts)?;
-    way(rt, nodes, from, to, &leave, &enter)
-}
-
-/// A way between two alternatives, of which the first may get a node below it before: how many nodes were added.
-fn step(
-    rt: &impl Abort,
-    nodes: &mut Nodes,
-    seed: u64,
-    grows: bool,
-    drawn: u64,
-) -> Result<u64, Fail> {
-    let from = place(drawn_node(rt, seed, drawn), ((seed / 64) % 3) as u32);
-    let to = place(
-        drawn_node(rt, seed / 256, drawn),
-        ((seed / 1024) % 3) as u32,
-    );
-    let grows = grows && seen(nodes, from) == Look::Entry;
-    if grows {
-        add(rt, nodes.allocator(), nodes, Some(from), drawn)?;
-    }
-    let added = u64::from(grows);
-    slow_way(rt, nodes, from, to, drawn.saturating_add(added))?;
-    Ok(added)
-}
-
-/// Ways between any two alternatives of a tree that grows.
-#[test]
-fn random_ways(rt: HostRuntime) -> Result<(), Fail> {
-    let mut nodes = Nodes::new(rt.alloc());
-    add(&rt, rt.alloc(), &mut nodes, None, 0)?;
-    let mut drawn = 1u64;
-    let mut random = 3u64;
-    for turn in 0..3000 {
-        random = next_random(random);
-        let added = step(&rt, &mut nodes, random >> 33, turn % 50 == 0, drawn)?;
-        drawn = drawn.saturating_add(added);
-    }
-    assert!(rt; drawn > 20);
     Ok(())
 }
