@@ -1,5 +1,7 @@
 //! Arguments of compounds.
-ghost use Rattle.std.specs.Prelude.{◌≡◌, ◌<◌, ◌+◌, ◌-◌, ◌^◌};
+ghost use Rattle.std.specs.Prelude.{◌≡◌, ◌<◌, ◌+◌, ◌-◌, ◌^◌, ◌∷◌, List};
+ghost use Rattle.cell_store.specs.UnificationSteps.{KeepsRestEquations};
+ghost use Rattle.cell_store.specs.declared.arguments.Equations.{Equations as EquationsValue};
 
 /// So many arguments that follow one another, from a place on, and the number that is added to their variables.
 #[derive(Clone, Copy, Debug)]
@@ -41,4 +43,22 @@ pub fn rest_of(arguments: Arguments) -> Arguments
         base: arguments.base,
         count: arguments.count - 1,
     }
+}
+
+/// Equations but for the first.
+#[inline(always)]
+pub(crate) fn rest(equations: Equations) -> Equations
+    requires some { (1 < equations.left.count) × (0 < equations.right.count) }
+    requires short { (equations.left.at < 2 ^ 32 - 1) × (equations.right.at < 2 ^ 32 - 1) }
+    ensures kept { (es : List EquationsValue) → KeepsRestEquations equations es (result ∷ es) }
+    ensures fewer { result.left.count < equations.left.count }
+{
+    let left = rest_of(equations.left);
+    // There are as many on the right.
+    let right = Arguments {
+        at: equations.right.at + 1,
+        base: equations.right.base,
+        count: left.count,
+    };
+    Equations { left, right }
 }

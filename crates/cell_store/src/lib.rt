@@ -29,6 +29,7 @@ mod resolved;
 mod solve;
 mod store;
 mod unify;
+mod unifying;
 
 pub use occurs::{push_arguments, push_rest};
 pub use store::Store;

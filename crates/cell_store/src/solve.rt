@@ -5,9 +5,9 @@ ghost use Rattle.cell_store.specs.FreshVariables.{AreOlder, AreYoung};
 ghost use Rattle.cell_store.specs.StoreView.{text_in};
 ghost use Rattle.cell_store.specs.UnificationSteps.{AllEquations, IsSolved, KeepsRestEquations, OnlyBinds, equations_left};
 
-use crate::arguments::Equations;
+use crate::arguments::{Equations, rest};
 use crate::store::Store;
-use crate::unify::{Outcome, arguments_go, rest};
+use crate::unify::{Outcome, arguments_go};
 use au_term::NoMemory;
 
 /// Makes both sides of equations one by further bindings, or answers that none do: of these first, and then of those that wait

@@ -1,8 +1,9 @@
 //! The store.
-ghost use Rattle.std.specs.Prelude.{◌≡◌, ◌-◌, ◌^◌, ◌<◌, ◌≤◌, ◌+◌, ◌++◌, ◌∷◌, [], ℕ, List, length, take, drop, IfOk, IfSome, OnOk, OnErr, MatchOption};
+ghost use Rattle.std.specs.Prelude.{◌≡◌, ◌-◌, ◌^◌, ◌<◌, ◌≤◌, ◌+◌, ◌++◌, ◌∷◌, [], false, ℕ, List, length, take, drop, IfOk, IfSome, OnOk, OnErr, MatchOption};
 ghost use Rattle.std.specs.Arc.{arc_value};
 ghost use Rattle.au_model.specs.Terms.Each.{Each};
 ghost use Rattle.au_model.specs.Terms.Substitutions.{value_of};
+ghost use Rattle.au_model.specs.Terms.TermTypes.{is_compound};
 ghost use Rattle.au_term.specs.Term.{VarTerm, var_bound};
 ghost use Rattle.au_term.specs.Shifted.{shifted};
 ghost use Rattle.clause_compile.specs.AtomNumbers.{name_at};
@@ -12,7 +13,7 @@ ghost use Rattle.cell_store.specs.ArgumentSteps.{IsCompoundPlace, IsFreshPlace, 
 ghost use Rattle.cell_store.specs.FreshVariables.{AreOlder, AreYoung};
 ghost use Rattle.cell_store.specs.ListGoals.{list_goal};
 ghost use Rattle.cell_store.specs.MadeBindings.{AreMadeSince, AreOlderSinceMark, IsBindingOf, IsNextAtMark};
-ghost use Rattle.cell_store.specs.UnificationSteps.{AllEquations, IsSolved, IsUnified, OnlyBinds, equations_left};
+ghost use Rattle.cell_store.specs.UnificationSteps.{AllEquations, IsSolved, OnlyBinds, equations_left};
 ghost use Rattle.cell_store.specs.StoreView.{Moment, IsValidStore, IsValueIn, IsDereferenced, CanBeBound, BindsFurther, AddsText, meaning, substitution, text_in, value_term, new_store, with_numbers, with_mark, with_marks, taken_back, over_floor};
 
 use crate::arguments::{Arguments, Equations};
@@ -21,7 +22,6 @@ use crate::made::{bindings_after, older_variables};
 use crate::mark::{Mark, free_after, mark_of, protected};
 use crate::resolved::resolved;
 use crate::solve::solve;
-use crate::unify::unify;
 use au_term::{Atom, FlatTerm, NoMemory, Shared};
 use binding_array::{BindingArray, BindingCell};
 use clause_compile::{Code, Place};
@@ -213,6 +213,26 @@ impl Store {
         }
     }
 
+    /// The compound that a place means, with a number added to its variables, if it means one.
+    #[inline(always)]
+    pub fn any_compound(&self, place: Place, base: u32) -> Option<(u32, u32)>
+        requires there { IsPlaceOf (text_in self.now) place }
+        requires below { var_bound (shifted base (meaning_in (text_in self.now) place)) ≤ self.now.now.next }
+        ensures { MatchOption result (is_compound (shifted base (meaning_in (text_in self.now) place)) ≡ false) (IsCompoundPlace self.now place base) }
+    {
+        // The proof reads off that places are small.
+        let _next = self.cells.len();
+        match place {
+            Place::Sub(at) => Some((at as u32, base)),
+            // The same value, whatever the number.
+            Place::Ground(at) => Some((at as u32, 0)),
+            Place::Functor(_, _) => unreachable!(),
+            Place::Var(_) => None,
+            Place::Int(_) => None,
+            Place::Atom(_) => None,
+        }
+    }
+
     /// What an argument stands for, as a value that is no bound variable.
     #[inline(always)]
     pub(crate) fn reached(&self, at: u32, base: u32) -> BindingCell
@@ -298,40 +318,9 @@ impl Store {
         self.cells.bind(variable, value);
     }
 
-    /// Makes two values one by further bindings, or answers that none do. Where none do, or out of memory, some bindings may
-    /// be left: the store can be taken back to a mark.
-    pub fn unify(&mut self, a: BindingCell, b: BindingCell) -> Result<bool, NoMemory>
-        requires left { IsValueIn self.old a }
-        requires right { IsValueIn self.old b }
-        ensures unified { IfOk result (IsUnified a b self.old self.new) }
-        ensures kept { OnlyBinds self.old self.new }
-    {
-        unify(a, b, None, self)
-    }
-
-    /// The same, of a goal and the head of a clause whose variables are numbered from `base` on and are in nothing that the
-    /// goal stands for: one of them is bound without the search for it in its value, until an older variable is bound to a
-    /// compound of the head.
-    #[inline]
-    pub fn unify_head(
-        &mut self,
-        goal: BindingCell,
-        head: BindingCell,
-        base: u32,
-    ) -> Result<bool, NoMemory>
-        requires goal { IsValueIn self.old goal }
-        requires head { IsValueIn self.old head }
-        requires older { var_bound (meaning self.old goal) ≤ base }
-        ensures unified { IfOk result (IsUnified goal head self.old self.new) }
-        ensures kept { OnlyBinds self.old self.new }
-    {
-        let fresh = self.if_young(base);
-        unify(goal, head, fresh, self)
-    }
-
     /// The first variable of a clause, where the clause's variables came after the floor and all marks.
     #[inline(always)]
-    fn if_young(&self, base: u32) -> Option<u32>
+    pub(crate) fn if_young(&self, base: u32) -> Option<u32>
         ensures young { AreYoung self.now result }
         ensures same { IfSome result (λ first. first ≡ base) }
     {

@@ -8,12 +8,11 @@ ghost use Rattle.clause_compile.specs.AtomNumbers.{name_at};
 ghost use Rattle.cell_store.specs.FreshVariables.{AreOlder, AreYoung, IsOlder, StaysOlder, fresh_after, is_fresh};
 ghost use Rattle.cell_store.specs.Values.{IsNoVariable};
 ghost use Rattle.cell_store.specs.StoreView.{IsUnbound, IsValueIn, compound_meaning, meaning, substitution, text_in};
-ghost use Rattle.cell_store.specs.UnificationSteps.{AllEquations, IsSolved, IsUnified, OnlyBinds, FollowsRule, SolvesFirst, TakesRule, IsBoundOr, KeepsRestEquations, equations_left, solved_if};
+ghost use Rattle.cell_store.specs.UnificationSteps.{AllEquations, IsSolved, IsUnified, OnlyBinds, FollowsRule, SolvesFirst, TakesRule, IsBoundOr, equations_left, solved_if};
 ghost use Rattle.cell_store.specs.ArgumentSteps.{IsConstant};
 ghost use Rattle.cell_store.specs.Arguments.{IsArgument, argument_meaning};
-ghost use Rattle.cell_store.specs.declared.arguments.Equations.{Equations as ArgumentEquations};
 
-use crate::arguments::{Arguments, Equations, arguments_of, rest_of};
+use crate::arguments::{Arguments, Equations, arguments_of, rest};
 use crate::occurs::occurs;
 use crate::store::Store;
 use au_term::NoMemory;
@@ -66,15 +65,35 @@ fn solve_arguments(
     ensures kept { OnlyBinds store.old store.new }
 {
     let mut fresh = fresh;
-    let mut open = equations;
+    // Carried as numbers, which is faster than as equations.
+    let Arguments {
+        mut at,
+        mut base,
+        mut count,
+    } = equations.left;
+    let Arguments {
+        at: mut to,
+        base: mut on,
+        count: mut others,
+    } = equations.right;
     loop {
+        let open = Equations {
+            left: Arguments { at, base, count },
+            right: Arguments {
+                at: to,
+                base: on,
+                count: others,
+            },
+        };
         if !solve_first(open, &mut fresh, store)? {
             return Ok(false);
         }
-        if open.left.count == 1 {
+        if count == 1 {
             return Ok(true);
         }
-        open = rest(open);
+        let next = rest(open);
+        (at, base, count) = (next.left.at, next.left.base, next.left.count);
+        (to, on, others) = (next.right.at, next.right.base, next.right.count);
     }
 }
 
@@ -115,23 +134,44 @@ fn solve_inside(
     ensures stays { OnOk result (StaysOlder store.old store.new fresh.old fresh.new) }
     ensures kept { OnlyBinds store.old store.new }
 {
-    let mut open = equations;
+    // Carried as numbers, which is faster than as equations.
+    let Arguments {
+        mut at,
+        mut base,
+        mut count,
+    } = equations.left;
+    let Arguments {
+        at: mut to,
+        base: mut on,
+        count: mut others,
+    } = equations.right;
     loop {
+        let open = Equations {
+            left: Arguments { at, base, count },
+            right: Arguments {
+                at: to,
+                base: on,
+                count: others,
+            },
+        };
         match arguments_go(open.left, open.right, fresh, store)? {
             Outcome::Clash => return Ok(false),
             Outcome::Solved => {
-                if open.left.count == 1 {
+                if count == 1 {
                     return Ok(true);
                 }
-                open = rest(open);
+                let next = rest(open);
+                (at, base, count) = (next.left.at, next.left.base, next.left.count);
+                (to, on, others) = (next.right.at, next.right.base, next.right.count);
             }
             Outcome::Inside(inner) => {
-                if open.left.count > 1 {
+                if count > 1 {
                     let from = *fresh;
                     *fresh = None;
                     return store.solve_behind(inner, rest(open), from);
                 }
-                open = inner;
+                (at, base, count) = (inner.left.at, inner.left.base, inner.left.count);
+                (to, on, others) = (inner.right.at, inner.right.base, inner.right.count);
             }
         }
     }
@@ -443,22 +483,4 @@ fn compounds_go(left: (u32, u32), right: (u32, u32), store: &Store) -> Outcome
         left: arguments_of(left, count),
         right: arguments_of(right, count),
     })
-}
-
-/// Equations but for the first.
-#[inline(always)]
-pub(crate) fn rest(equations: Equations) -> Equations
-    requires some { (1 < equations.left.count) × (0 < equations.right.count) }
-    requires short { (equations.left.at < 2 ^ 32 - 1) × (equations.right.at < 2 ^ 32 - 1) }
-    ensures kept { (es : List ArgumentEquations) → KeepsRestEquations equations es (result ∷ es) }
-    ensures fewer { result.left.count < equations.left.count }
-{
-    let left = rest_of(equations.left);
-    // There are as many on the right.
-    let right = Arguments {
-        at: equations.right.at + 1,
-        base: equations.right.base,
-        count: left.count,
-    };
-    Equations { left, right }
 }

@@ -1,7 +1,7 @@
 use Rattle.std.proofs.Common.{◌+◌, refl}
 use Rattle.cell_store.specs.declared.arguments.Equations.{Equations as ArgumentEquations}
 use Rattle.cell_store.proofs.RuleLemmas.{rest_equations}
-use Rattle.cell_store.proofs.unify.rest.Goals as goal
+use Rattle.cell_store.proofs.arguments.rest.Goals as goal
 
 pub returns-clause-kept : goal.returns-clause-kept
 returns-clause-kept c = λ es.
