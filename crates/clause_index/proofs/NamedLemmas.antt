@@ -1,14 +1,14 @@
 -- Entries of names.
 use Rattle.std.proofs.Common.{◌≡◌, ◌≢◌, ℕ, zero, suc, Bool, true, false, ◌||◌, List, [], ◌∷◌, ◌++◌, Option, Some, None, slice_set, slice_get, IfSome, refl, sym, ap, ap₂, subst, ◌∙◌}
 use Rattle.std.specs.List.{list_any}
-use Rattle.std.specs.BTreeMap.{BTreeMap}
+use Rattle.std.specs.BTreeMap.{BTreeMap, get}
 use Rattle.std.specs.Option.{is_some}
 use Rattle.std.proofs.lemmas.List.Folds.{list_any-append}
 use Rattle.clause_index.specs.Classes.{is_of, class_by}
 use Rattle.clause_index.specs.Numbers.{first_from}
-use Rattle.clause_index.specs.Chains.{AreFirstsOf, AreNamedFirsts, knows_key, KnowsKeysOf, LearnsKey, LearnKeyOf}
+use Rattle.clause_index.specs.Chains.{class_cmp, HasFirsts, AreFirstsIn, AreFirstsOf, AreNamedFirsts, knows_key, KnowsKeysOf, LearnsKey, LearnKeyOf}
 use Rattle.clause_index.specs.declared.key.Class.{Class}
-use Rattle.clause_index.specs.declared.key.Class.TheVariants.{WithKey}
+use Rattle.clause_index.specs.declared.key.Class.TheVariants.{Procedure, WithoutKey, WithKey}
 use Rattle.clause_index.specs.declared.key.HeadKey.{HeadKey}
 use Rattle.clause_index.specs.declared.key.NumberKey.{NumberKey}
 use Rattle.clause_index.specs.declared.index.NamedFirsts.{NamedFirsts}
@@ -90,3 +90,19 @@ none_known heads name f key knows unknown =
     by_option : (o : Option ℕ) → is_some o ≡ false → o ≡ None
     by_option None e = refl
     by_option (Some i) e = absurd cc
+
+-- what the map has of a procedure is of the heads
+pub firsts_in : (heads : List HeadKey) (map : BTreeMap Class ℕ) (name arity : ℕ) (f : NamedFirsts) → HasFirsts heads map 0 → AreFirstsOf map name f → KnowsKeysOf heads name f → f.arity ≡ arity → AreFirstsIn heads name arity f
+firsts_in heads map name arity f has are known e =
+    record {
+      arguments = e;
+      all = are.all ∙ (has (Procedure name f.arity) ∙ ap (λ n. first_from 0 (is_of (Procedure name n)) heads) e);
+      without_key = are.without_key ∙ (has (WithoutKey name f.arity) ∙ ap (λ n. first_from 0 (is_of (WithoutKey name n)) heads) e);
+      one = found f.one are.one;
+      other = found f.other are.other;
+      known = known;
+    }
+  where
+    found : (o : Option (NumberKey × ℕ)) → IfSome o (λ keyed. get class_cmp map (WithKey name f.arity keyed.0) ≡ Some keyed.1) → IfSome o (λ keyed. first_from 0 (is_of (WithKey name arity keyed.0)) heads ≡ Some keyed.1)
+    found None k = tt
+    found (Some keyed) k = sym (ap (λ n. first_from 0 (is_of (WithKey name n keyed.0)) heads) e) ∙ (sym (has (WithKey name f.arity keyed.0)) ∙ k)

@@ -65,6 +65,15 @@ pub record LearnsKey (old : NamedFirsts) (key : NumberKey) (new : NamedFirsts) :
   pub learned : knows_key new key ≡ true
   pub kept : (other : NumberKey) → knows_key old other ≡ true → knows_key new other ≡ true
 
+-- what is known at once of a procedure's clauses: their first ones, and those with the keys that are known
+pub record AreFirstsIn (heads : List HeadKey) (name arity : ℕ) (f : NamedFirsts) : Type 0 where
+  pub arguments : f.arity ≡ arity
+  pub all : f.all ≡ first_from 0 (is_of (Procedure name arity)) heads
+  pub without_key : f.without_key ≡ first_from 0 (is_of (WithoutKey name arity)) heads
+  pub one : IfSome f.one (λ keyed. first_from 0 (is_of (WithKey name arity keyed.0)) heads ≡ Some keyed.1)
+  pub other : IfSome f.other (λ keyed. first_from 0 (is_of (WithKey name arity keyed.0)) heads ≡ Some keyed.1)
+  pub known : KnowsKeysOf heads name f
+
 -- the key of one head more is known, whatever the heads before it
 abbrev pub LearnKeyOf : HeadKey → List NamedFirsts → List NamedFirsts → Type 0
 LearnKeyOf h old new = (heads : List HeadKey) → KnowKeysOf heads old → KnowKeysOf (heads ++ h ∷ []) new

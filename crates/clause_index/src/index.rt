@@ -5,7 +5,7 @@ ghost use Rattle.clause_index.specs.Classes.{is_of, is_head_of, can_match, proce
 ghost use Rattle.clause_index.specs.Numbers.{first_from, numbers, only_of};
 ghost use Rattle.clause_index.specs.Cursors.{IsCursorOf, IsNumberBelow, chain, numbers_left, TakesLeast};
 ghost use Rattle.clause_index.specs.declared.cursor.Cursor.{Cursor as CursorValue};
-ghost use Rattle.clause_index.specs.Chains.{IsChained, AreFirstsOf, AreNamedFirsts, HasKeyed, is_one_of_two, LearnsKey, KnowKeysOf, LearnKeyOf};
+ghost use Rattle.clause_index.specs.Chains.{IsChained, AreFirstsIn, AreFirstsOf, AreNamedFirsts, HasKeyed, is_one_of_two, LearnsKey, KnowKeysOf, LearnKeyOf};
 
 use crate::cursor::Cursor;
 use crate::key::{Class, HeadKey, NumberKey};
@@ -32,9 +32,9 @@ pub(crate) struct NamedFirsts {
 impl NamedFirsts {
     /// The first clause with a key, where the key is one of the two.
     #[inline(always)]
-    fn with_key(self, key: NumberKey) -> Option<u32>
-        ensures some { IfSome result (λ number. HasKeyed self (key, number)) }
-        ensures none { result ≡ None → is_one_of_two self key ≡ false }
+    fn with_key(&self, key: NumberKey) -> Option<u32>
+        ensures some { IfSome result (λ number. HasKeyed self.now (key, number)) }
+        ensures none { result ≡ None → is_one_of_two self.now key ≡ false }
     {
         match (self.one, self.other) {
             (Some((known, number)), _) if known == key => Some(number),
@@ -133,7 +133,10 @@ impl ClauseIndex {
     pub fn is_defined(&self, name: u32, arity: u32) -> bool
         ensures { result ≡ list_any (is_head_of name arity) self.now }
     {
-        self.first_of_procedure(name, arity).is_some()
+        match self.entry(name, arity) {
+            Some(firsts) => firsts.all.is_some(),
+            None => self.first(Class::Procedure(name, arity)).is_some(),
+        }
     }
 
     /// The clauses that a goal with this name, number of arguments and first key may match. A goal whose first argument is a
@@ -143,11 +146,45 @@ impl ClauseIndex {
         ensures numbers { numbers_left self.now result ≡ numbers (can_match name arity key) self.now }
         ensures cursor { IsCursorOf self.now result }
     {
+        match self.entry(name, arity) {
+            Some(firsts) => self.candidates_among(name, arity, key, firsts),
+            None => self.candidates_searched(name, arity, key),
+        }
+    }
+
+    /// The same, by what is known at once of the procedure.
+    #[inline(always)]
+    fn candidates_among(
+        &self,
+        name: u32,
+        arity: u32,
+        key: Option<NumberKey>,
+        firsts: &NamedFirsts,
+    ) -> Cursor
+        requires { AreFirstsIn self.now name arity firsts.now }
+        ensures numbers { numbers_left self.now result ≡ numbers (can_match name arity key) self.now }
+        ensures cursor { IsCursorOf self.now result }
+    {
         match key {
-            None => Cursor::All(self.first_of_procedure(name, arity)),
+            None => Cursor::All(firsts.all),
             Some(key) => Cursor::ByKey(
-                self.first_without_key(name, arity),
-                self.first_with_key(name, arity, key),
+                firsts.without_key,
+                self.first_with_key(name, arity, key, firsts),
+            ),
+        }
+    }
+
+    /// The same, by the map.
+    #[inline(never)]
+    fn candidates_searched(&self, name: u32, arity: u32, key: Option<NumberKey>) -> Cursor
+        ensures numbers { numbers_left self.now result ≡ numbers (can_match name arity key) self.now }
+        ensures cursor { IsCursorOf self.now result }
+    {
+        match key {
+            None => Cursor::All(self.first(Class::Procedure(name, arity))),
+            Some(key) => Cursor::ByKey(
+                self.first(Class::WithoutKey(name, arity)),
+                self.first(Class::WithKey(name, arity, key)),
             ),
         }
     }
@@ -256,40 +293,33 @@ impl ClauseIndex {
         self.next_of_class[number as usize]
     }
 
-    /// The first clause of a procedure.
+    /// What is known at once of a procedure, if it is.
     #[inline(always)]
-    fn first_of_procedure(&self, name: u32, arity: u32) -> Option<u32>
-        ensures { result ≡ first_from 0 (is_of (Class.Procedure name arity)) self.now }
+    fn entry(&self, name: u32, arity: u32) -> Option<&NamedFirsts>
+        ensures { IfSome result (λ firsts. AreFirstsIn self.entry.now name arity firsts.now) }
     {
-        match firsts_at(&self.named, name) {
-            Some(firsts) if firsts.arity == arity => firsts.all,
-            _ => self.first(Class::Procedure(name, arity)),
+        match self.named.get(name as usize) {
+            Some(firsts) if firsts.arity == arity => Some(firsts),
+            _ => None,
         }
     }
 
-    /// The first clause of a procedure whose head has no first key.
+    /// The first clause of a procedure whose head has a key, by what is known at once of the procedure.
     #[inline(always)]
-    fn first_without_key(&self, name: u32, arity: u32) -> Option<u32>
-        ensures { result ≡ first_from 0 (is_of (Class.WithoutKey name arity)) self.now }
-    {
-        match firsts_at(&self.named, name) {
-            Some(firsts) if firsts.arity == arity => firsts.without_key,
-            _ => self.first(Class::WithoutKey(name, arity)),
-        }
-    }
-
-    /// The first clause of a procedure whose head has a key.
-    #[inline(always)]
-    fn first_with_key(&self, name: u32, arity: u32, key: NumberKey) -> Option<u32>
+    fn first_with_key(
+        &self,
+        name: u32,
+        arity: u32,
+        key: NumberKey,
+        firsts: &NamedFirsts,
+    ) -> Option<u32>
+        requires { AreFirstsIn self.now name arity firsts.now }
         ensures { result ≡ first_from 0 (is_of (Class.WithKey name arity key)) self.now }
     {
-        match firsts_at(&self.named, name) {
-            Some(firsts) if firsts.arity == arity => match firsts.with_key(key) {
-                Some(number) => Some(number),
-                None if firsts.has_more => self.first(Class::WithKey(name, arity, key)),
-                None => None,
-            },
-            _ => self.first(Class::WithKey(name, arity, key)),
+        match firsts.with_key(key) {
+            Some(number) => Some(number),
+            None if firsts.has_more => self.first(Class::WithKey(name, arity, key)),
+            None => None,
         }
     }
 
@@ -338,7 +368,6 @@ fn named_firsts(
 }
 
 /// Those of a name, if it has an entry.
-#[inline(always)]
 fn firsts_at(named: &[NamedFirsts], name: u32) -> Option<NamedFirsts>
     ensures { result ≡ slice_get named.now name }
 {
