@@ -8,7 +8,10 @@ use Rattle.run_model.specs.Machine.Items.{Item, with_items, resolve_item, withou
 use Rattle.run_model.proofs.FreeStepLemmas.{length-collected, result_collects}
 use Rattle.clause_compile.specs.Places.{CodeView}
 use Rattle.binding_array.specs.declared.cell.BindingCell.{BindingCell}
+use Rattle.binding_array.specs.declared.cell.BindingCell.TheVariants.{Compound}
 use Rattle.cell_store.specs.StoreView.{text_in, meaning}
+use Rattle.region_split.specs.CompoundGoals.{IsCompoundFirst}
+use Rattle.region_split.specs.declared.frame.CompoundFirst.{CompoundFirst}
 use Rattle.region_split.specs.Backtracking.{resumed_entries, without_catches, IsResumed, TakesFreeSteps, Resumes as HasResumed}
 use Rattle.region_split.specs.ClauseTrials.{entries_at}
 use Rattle.region_split.specs.StackOperations.{item_here}
@@ -199,3 +202,14 @@ module _ (old r : RegionView) (start : Option Position) (now : Resumed) (w : IsG
         let d = length-collected (height_of_cut (heights_of [] r) over) (meaning r.store value) (entries_of [] r) in
         let f = ap (λ n. length (resumed_entries [] r n)) e in
         omega (arith, a, b, c, d, f)
+
+-- a compound that stands first lies ahead
+pub compound_lies_ahead : (r : RegionView) (p : Position) (g : CompoundFirst) → IsPositionIn r p → IsCompoundFirst r p g → LiesAhead r r (Some p) (Ahead.Goal (Goal (Compound g.at g.base)) (record { cut = g.cut; after = g.after }))
+compound_lies_ahead r p g i first =
+    let item = Goal (Compound g.at g.base) in
+    let place : GoalPlace = record { cut = g.cut; after = g.after } in
+    let found : HasGoalFirst r p item place = record {
+      items = λ named. ap (unmarked r.store.now.bound (heights_of named r)) first.items ∙ goal_stays r.store.now.bound (heights_of named r) (text_in r.store) item g.cut (items_here r g.after) refl;
+      there = record { goal = refl; there = first.there; place = record { scope = first.scope; after = first.after } };
+    } in
+    goal_ahead r r (Some p) (Resumes.At p) (going_at r (Some p) p refl i) p item place refl found

@@ -14,8 +14,6 @@ use Rattle.region_split.specs.ClauseTrials.{entries_at}
 use Rattle.region_split.specs.ResultLists.{ResultsView}
 use Rattle.region_split.specs.declared.frame.FrameItem.{FrameItem}
 use Rattle.region_split.specs.declared.frame.FrameItem.TheVariants.{Goal as ValueGoal, Call, Cut, True, Fail, CatchEnd, Collect, Removal as RemovedClause}
-use Rattle.region_split.specs.declared.frame.Left.{Left}
-use Rattle.region_split.specs.declared.frame.Left.TheVariants.{First}
 use Rattle.region_split.specs.declared.frame.Position.{Position}
 use Rattle.region_control.specs.Controls.{IsGoalPlace}
 use Rattle.region_control.specs.declared.control.GoalPlace.{GoalPlace}
@@ -48,11 +46,6 @@ items_with_goal named r item g = item_here r item g.cut (heights_of named r) ++ 
 
 abbrev pub goal_entry : List NamedTerm → RegionView → FrameItem → GoalPlace → Entry
 goal_entry named r item g = PlainEntry (before (item_here r item g.cut (heights_of named r)) (continuation_here named r g.after))
-
--- whether what is left begins with a compound
-abbrev pub is_compound_first : Left → Bool
-is_compound_first (First (ValueGoal (Compound at base)) cut) = true
-is_compound_first _ = false
 
 -- a compound that stands first as a goal
 abbrev pub compound_goal : CompoundAhead → Ahead

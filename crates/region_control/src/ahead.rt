@@ -1,18 +1,19 @@
 //! What lies ahead where no free step is left (ISO/IEC 13211-1, 7.8.9 and 8.10.1).
-ghost use Rattle.std.specs.Prelude.{◌≡◌, ◌≤◌, false, IfOk, IfSome, OnOk, MatchOption, Some, length};
+ghost use Rattle.std.specs.Prelude.{◌≡◌, ◌≤◌, IfOk, IfSome, OnOk, MatchOption, Some, length};
 ghost use Rattle.cell_store.specs.StoreView.{IsValueIn};
-ghost use Rattle.region_split.specs.Regions.{items_here, IsLeftAt, IsPositionIn, IsPositionOver};
+ghost use Rattle.region_split.specs.Regions.{items_here, IsPositionIn, IsPositionOver};
+ghost use Rattle.region_split.specs.CompoundGoals.{HasNoCompoundFirst};
 ghost use Rattle.region_split.specs.ChoicePoints.{IsFindallAt};
 ghost use Rattle.region_split.specs.Backtracking.{IsResumed};
 ghost use Rattle.region_split.specs.ClauseTrials.{IsOptionalPosition};
 ghost use Rattle.region_split.specs.declared.choice.Resumed.{Resumed as ResumedValue};
 ghost use Rattle.region_control.specs.declared.ahead.Ahead.{Ahead as AheadValue};
-ghost use Rattle.region_control.specs.Ahead.{is_goal_item, is_compound_first, compound_goal, HasFirst, LiesAhead, EndsFindall, CollectsResult};
+ghost use Rattle.region_control.specs.Ahead.{is_goal_item, compound_goal, HasFirst, LiesAhead, EndsFindall, CollectsResult};
 
 use crate::control::GoalPlace;
 use au_term::{NoMemory, VarNo};
 use binding_array::BindingCell;
-use region_split::{FrameItem, Left, Position, Region, Results, Resumed};
+use region_split::{CompoundFirst, FrameItem, Left, Position, Region, Results, Resumed};
 use std::alloc::Global;
 
 /// What comes first at a position, past the ends of catches.
@@ -95,30 +96,24 @@ fn goal_at(
     Ok(Some((item, GoalPlace { cut, after })))
 }
 
-/// The goal that stands first at a position where this is left, if it is a compound.
+/// The goal that stands first at a position, if it is a compound of the position's own frame; none at the last place that has a
+/// number.
 #[inline(always)]
-pub fn compound_ahead(
-    region: &Region,
-    position: Position,
-    left: Left,
-) -> Result<Option<CompoundAhead>, NoMemory>
-    requires position { IsPositionIn region.now position }
-    requires left { IsLeftAt region.now position left }
-    ensures { IfOk result (λ found. MatchOption found (is_compound_first left ≡ false) (λ g. LiesAhead region.now region.now (Some position) (compound_goal g))) }
+pub fn compound_ahead(region: &Region, position: Position) -> Option<CompoundAhead>
+    requires { IsPositionIn region.now position }
+    ensures { MatchOption result (HasNoCompoundFirst region.now position) (λ g. LiesAhead region.now region.now (Some position) (compound_goal g)) }
 {
-    let Left::First(FrameItem::Goal(BindingCell::Compound(at, base)), cut) = left else {
-        return Ok(None);
-    };
-    let Some(next) = position.at.checked_add(1) else {
-        return Err(NoMemory);
-    };
-    let frame = position.frame;
-    let after = past_end(region, Position { frame, at: next }, cut);
+    let CompoundFirst {
+        at,
+        base,
+        cut,
+        after,
+    } = region.compound_at(position)?;
     let place = GoalPlace { cut, after };
-    Ok(Some(CompoundAhead { at, base, place }))
+    Some(CompoundAhead { at, base, place })
 }
 
-/// The same where no goal need stand first.
+/// What lies ahead where no goal need stand first.
 #[inline(never)]
 fn look_further(
     region: &mut Region,

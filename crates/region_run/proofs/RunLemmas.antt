@@ -2,7 +2,7 @@
 use Rattle.std.proofs.Common.{Box}
 use Rattle.std.specs.Global.{Global}
 use Rattle.au_term.specs.declared.flat.FlatTerm.{FlatTerm}
-use Rattle.std.proofs.Common.{◌≡◌, ℕ, suc, ◌+◌, ◌<◌, ◌≤◌, true, List, [], ◌∷◌, ◌++◌, length, Option, Some, None, refl, sym, ap, ap₂, ◌∙◌, subst, arith}
+use Rattle.std.proofs.Common.{◌≡◌, ℕ, suc, ◌+◌, ◌<◌, ◌≤◌, Bool, true, false, List, [], ◌∷◌, ◌++◌, length, Option, Some, None, refl, sym, ap, ap₂, ◌∙◌, subst, arith}
 use Rattle.au_term.specs.Term.{Term, argument_count}
 use Rattle.au_model.specs.Terms.Named.{NamedTerm}
 use Rattle.run_model.specs.Goals.GoalOutcomes.{outcome_of}
@@ -10,7 +10,8 @@ use Rattle.run_model.specs.Goals.Outcomes.{Solutions, Ball, HaltNumber, Outcome,
 use Rattle.run_model.specs.Machine.Entries.{Entry, EndEntry}
 use Rattle.run_model.specs.Machine.Items.{Continuation}
 use Rattle.run_model.specs.Machine.States.{State, step, with_free_steps, entry_taken, goal_taken, with_entries}
-use Rattle.run_model.specs.Programs.Clauses.{Clause}
+use Rattle.au_model.specs.Terms.Forms.{name_of}
+use Rattle.run_model.specs.Programs.Clauses.{Clause, is_defined}
 use Rattle.binding_array.specs.declared.cell.BindingCell.{BindingCell}
 use Rattle.binding_array.specs.declared.cell.BindingCell.TheVariants.{Compound}
 use Rattle.run_model.proofs.StepLemmas.{step_is}
@@ -40,9 +41,10 @@ use Rattle.cell_store.specs.StoreView.{StoreView, meaning, substitution, text_in
 use Rattle.clause_compile.specs.AtomNumbers.{name_at}
 use Rattle.goal_kinds.specs.Kinds.{IsKindOf}
 use Rattle.goal_kinds.specs.declared.kind.GoalKind.{GoalKind}
+use Rattle.goal_kinds.specs.declared.kind.GoalKind.TheVariants as kind
 use Rattle.region_run.specs.Inferences.{is_procedure_call, item_goal, Infers, InfersItem}
 use Rattle.region_run.specs.Runs.{run_on, AsksWorldNext, GoesOnFrom, IsStop, Runs, TakesFirst, TakesCompoundFirst, TakesCall, stop_entries, stop_of}
-use Rattle.region_run.proofs.InferenceLemmas.{item_infers, called_at, called_none, calls_defined}
+use Rattle.region_run.proofs.InferenceLemmas.{item_infers, call_asks, called_at, called_none, calls_defined}
 use Rattle.region_run.specs.declared.running.Ran.{Ran}
 use Rattle.region_run.specs.declared.running.Stop.TheVariants as stop
 
@@ -302,6 +304,28 @@ module _ (old r r2 : RegionView) (start next : Option Position) (goes : GoesOnFr
         place = g.place;
         call = takes_compound Failed (called_none r (meaning r.store goal) g.place is.callable d.0 d.1 r2 goal refl c) c.text c.floor;
       }
+
+  -- where a clause goes on, the procedure is in the text
+  pub takes_reached : (form : GoalForm) → IsFormOf r.store goal form → IsKindOf (name_at (text_in r.store).names form.name) form.arguments.count kind.Call
+      → (p : Position) → Calls r r2 goal g.place.after (Some p) → TakesCall old r2 start (Some p)
+  takes_reached form is known p c = by_defined (is_defined r.text.clauses (name_of (meaning r.store goal)) (argument_count (meaning r.store goal))) refl
+    where
+      by_defined : (b : Bool) → is_defined r.text.clauses (name_of (meaning r.store goal)) (argument_count (meaning r.store goal)) ≡ b → TakesCall old r2 start (Some p)
+      by_defined true e = takes_call form is kind.Call known (sym (ap₂ (is_defined r.text.clauses) is.name is.count) ∙ e) (Some p) c
+      by_defined false e = let none = (c.undefined e).0 in absurd cc
+
+  -- where none does, it is in the text or asked of the world
+  pub takes_none : (form : GoalForm) → IsFormOf r.store goal form → IsKindOf (name_at (text_in r.store).names form.name) form.arguments.count kind.Call
+      → Calls r r2 goal g.place.after None → is_defined r2.text.clauses (name_at (text_in r2.store).names form.name) form.arguments.count ≡ true → TakesCall old r2 start None
+  takes_none form is known c e = takes_call form is kind.Call known (ap₂ (λ (clauses : List Clause) names. is_defined clauses (name_at names form.name) form.arguments.count) (sym (ap (λ (t : TextView). t.clauses) c.text)) (sym c.names) ∙ e) None c
+
+  pub takes_asked : (form : GoalForm) → IsFormOf r.store goal form → IsKindOf (name_at (text_in r.store).names form.name) form.arguments.count kind.Call
+      → Calls r r2 goal g.place.after None → is_defined r2.text.clauses (name_at (text_in r2.store).names form.name) form.arguments.count ≡ false → TakesCompoundFirst old r2 start (item.Goal goal) g.place AsksWorld
+  takes_asked form is known c e =
+      let none : is_defined r.text.clauses (name_at (text_in r.store).names form.name) form.arguments.count ≡ false
+      = ap₂ (λ (clauses : List Clause) names. is_defined clauses (name_at names form.name) form.arguments.count) (sym (ap (λ (t : TextView). t.clauses) c.text)) (sym c.names) ∙ e in
+      let same : r2 ≡ r = (c.undefined (ap₂ (is_defined r.text.clauses) is.name is.count ∙ none)).1 in
+      takes_compound AsksWorld (subst (λ x. Infers r x (meaning r.store goal) g.place AsksWorld) (sym same) (call_asks r goal form is g.place known none)) c.text c.floor
 
 -- a call is one more
 module _ (old r r2 : RegionView) (start next : Option Position) (taken : ℕ) (w : IsRunning old r start next taken) where

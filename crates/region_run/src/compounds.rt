@@ -4,11 +4,11 @@ ghost use Rattle.region_control.specs.Ahead.{LiesAhead, compound_goal};
 ghost use Rattle.region_split.specs.ClauseTrials.{IsOptionalPosition};
 ghost use Rattle.region_run.specs.Runs.{GoesOnFrom, TakesCompound, TakesCompoundFirst};
 
-use crate::inference::{calls_procedure, taken_by_kind};
+use crate::inference::taken_by_kind;
 use crate::kinds::kind_of;
 use au_term::NoMemory;
 use binding_array::BindingCell;
-use goal_kinds::GoalKinds;
+use goal_kinds::{GoalKind, GoalKinds};
 use region_control::{AfterGoal, CompoundAhead, GoalPlace, compound_ahead, compound_form};
 use region_split::keys::compound_numbers;
 use region_split::{FrameItem, Position, Region};
@@ -40,21 +40,26 @@ pub fn take_compound(
 {
     let start = go_on(region, start)?;
     region.ends_are_oldest();
-    let Some(compound) = compound_first(region, start)? else {
+    let Some(compound) = compound_first(region, start) else {
         return Ok(Taken::Nothing(start));
     };
     // The proof reads off that a compound has arguments.
     let _functor = region.store().functor(compound.at);
     let goal = BindingCell::Compound(compound.at, compound.base);
+    let place = compound.place;
     let form = compound_form(region.store(), compound.at, compound.base);
     let kind = kind_of(kinds, region.store(), form.name, form.arguments.count);
-    if calls_procedure(region, kind, form) {
+    if let GoalKind::Call = kind {
         let numbers = compound_numbers(region.store(), compound.at, compound.base);
-        let next = region.call_by(goal, numbers, compound.place.after)?;
-        return Ok(Taken::Called(next));
+        // Where a clause goes on, its procedure is in the text.
+        return match region.call_by(goal, numbers, place.after)? {
+            Some(position) => Ok(Taken::Called(Some(position))),
+            None if region.is_defined(form.name, form.arguments.count) => Ok(Taken::Called(None)),
+            None => Ok(Taken::Goal(FrameItem::Goal(goal), place, AfterGoal::AsksWorld)),
+        };
     }
-    let after = taken_by_kind(region, alloc, kind, goal, form, compound.place)?;
-    Ok(Taken::Goal(FrameItem::Goal(goal), compound.place, after))
+    let after = taken_by_kind(region, alloc, kind, goal, form, place)?;
+    Ok(Taken::Goal(FrameItem::Goal(goal), place, after))
 }
 
 /// Where nothing goes on at a position, tries the clause that the newest choice point has next, if it stands for clauses, and
@@ -86,18 +91,11 @@ fn try_next(region: &mut Region) -> Result<Option<Position>, NoMemory>
     }
 }
 
-/// The goal that stands first at a position, if it is a compound.
+/// The goal that stands first at a position, if it is a compound of the position's own frame.
 #[inline(always)]
-fn compound_first(
-    region: &Region,
-    start: Option<Position>,
-) -> Result<Option<CompoundAhead>, NoMemory>
+fn compound_first(region: &Region, start: Option<Position>) -> Option<CompoundAhead>
     requires { IsOptionalPosition region.now (length region.now.choices) start }
-    ensures { IfOk result (λ found. IfSome found (λ g. LiesAhead region.now region.now start (compound_goal g))) }
+    ensures { IfSome result (λ g. LiesAhead region.now region.now start (compound_goal g)) }
 {
-    let Some(position) = start else {
-        return Ok(None);
-    };
-    let left = region.left_at(position);
-    compound_ahead(region, position, left)
+    compound_ahead(region, start?)
 }

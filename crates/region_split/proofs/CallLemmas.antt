@@ -40,6 +40,7 @@ module _ (r : RegionView) (goal : BindingCell) (after : Position) (whole left : 
     position = tt;
     text = refl;
     floor = refl;
+    names = refl;
     undefined = λ e. (refl, refl);
   }
 
@@ -80,6 +81,7 @@ module _ (r : RegionView) (goal : BindingCell) (after : Position) (whole left : 
       position = subst (λ i. IsOptionalPosition new i reached) (count ∙ sym (ap (λ (x : RegionView). length x.choices) kept.others)) tried.position;
       text = ap (λ (x : RegionView). x.text) kept.others;
       floor = ap (λ (x : RegionView). x.store.floor) kept.others;
+      names = ap (λ (x : RegionView). (text_in x.store).names) kept.others;
       undefined = λ e. absurd (is_found e);
     }
 
@@ -115,6 +117,7 @@ module _ (r : RegionView) (goal : BindingCell) (after : Position) (whole left : 
         position = position_over r2 cut (length r2.choices) reached (let l = ap length same_choices in let m = length-append r.choices (a.choice ∷ []) in omega (arith, l, m, count)) tried.position;
         text = ap (λ (x : RegionView). x.text) kept.others ∙ ap (λ (x : RegionView). x.text) a.others;
         floor = ap (λ (x : RegionView). x.store.floor) kept.others ∙ ap (λ (x : RegionView). x.store.floor) a.others;
+        names = ap (λ (x : RegionView). (text_in x.store).names) kept.others ∙ ap (λ (x : RegionView). (text_in x.store).names) a.others;
         undefined = λ e. absurd (is_found e);
       }
 
@@ -142,6 +145,7 @@ only_called r new goal after n cut reached only count height tried kept = record
   position = subst (λ i. IsOptionalPosition new i reached) (count ∙ sym (ap (λ (x : RegionView). length x.choices) kept.others)) tried.position;
   text = ap (λ (x : RegionView). x.text) kept.others;
   floor = ap (λ (x : RegionView). x.store.floor) kept.others;
+  names = ap (λ (x : RegionView). (text_in x.store).names) kept.others;
   undefined = λ e. absurd (only.defined e);
 }
 

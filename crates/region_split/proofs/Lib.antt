@@ -9,6 +9,7 @@ pub mod NextClauseLemmas
 pub mod ResultLemmas
 pub mod FindallLemmas
 pub mod LeftLemmas
+pub mod CompoundLemmas
 pub mod ItemLemmas
 pub mod SolutionLemmas
 pub mod StoreLemmas

@@ -8,7 +8,7 @@ use Rattle.run_model.specs.Goals.Outcomes.{Solutions, alternatives_of}
 use Rattle.run_model.specs.Machine.Entries.{Entry}
 use Rattle.run_model.specs.Machine.Heights.{after_reply}
 use Rattle.binding_array.specs.declared.cell.BindingCell.{BindingCell}
-use Rattle.cell_store.specs.StoreView.{meaning}
+use Rattle.cell_store.specs.StoreView.{meaning, text_in}
 use Rattle.region_split.specs.Regions.{RegionView, standing, entries_of, continuation_here, position_entry, IsPositionOver}
 use Rattle.region_split.specs.StackOperations.{trial_entries}
 use Rattle.region_split.specs.declared.choice.Trial.{Trial}
@@ -42,11 +42,12 @@ abbrev pub called_entries : List NamedTerm → RegionView → BindingCell → Po
 called_entries named r goal after =
     after_reply (Solutions (alternatives_of r.text.clauses (meaning r.store goal) r.store.now.next)) (continuation_here named r after) (entries_of named r)
 
--- a goal was called: what goes on, over what the choice points stand for, is what takes its place; nothing has changed where
--- its procedure has no clause in the text
+-- a goal was called: what goes on, over what the choice points stand for, is what takes its place; names have the numbers that
+-- they had, and nothing has changed where its procedure has no clause in the text
 pub record Calls (old new : RegionView) (goal : BindingCell) (after : Position) (reached : Option Position) : Type 0 where
   pub entries : (named : List NamedTerm) → called_entries named old goal after ≡ entries_at named new reached ++ entries_of named new
   pub position : IsOptionalPosition new (length new.choices) reached
   pub text : new.text ≡ old.text
   pub floor : new.store.floor ≡ old.store.floor
+  pub names : (text_in new.store).names ≡ (text_in old.store).names
   pub undefined : is_defined old.text.clauses (name_of (meaning old.store goal)) (argument_count (meaning old.store goal)) ≡ false → (reached ≡ None) × (new ≡ old)

@@ -6,6 +6,7 @@ pub mod Frames
 pub mod ChoicePoints
 pub mod QueryEnds
 pub mod Regions
+pub mod CompoundGoals
 pub mod StackOperations
 pub mod ClauseTrials
 pub mod Backtracking

@@ -43,6 +43,16 @@ pub struct Frame {
     pub after: Position,
 }
 
+/// A compound that stands first at a position as a goal: its place, what is added to its variables, its scope, and the position
+/// at which what follows is left.
+#[derive(Clone, Copy, Debug, PartialEq, Eq)]
+pub struct CompoundFirst {
+    pub at: u32,
+    pub base: u32,
+    pub cut: u32,
+    pub after: Position,
+}
+
 /// What is left at a position, by its first item.
 #[derive(Clone, Copy, Debug, PartialEq, Eq)]
 pub enum Left {

@@ -26,8 +26,8 @@ mod solve;
 mod text;
 
 pub use choice::{Alternatives, ChoicePoint, Resumed, Trial};
-pub use frame::{Frame, FrameBody, FrameItem, Left, Position};
+pub use frame::{CompoundFirst, Frame, FrameBody, FrameItem, Left, Position};
 pub use region::Region;
 pub use results::Results;
 pub use solution::{Equation, EquationSide, Solution, Solutions};
-pub use text::{BodyItem, PlacedClause, Text};
+pub use text::{BodyItem, InnerArgument, PlacedClause, Text};

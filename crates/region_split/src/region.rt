@@ -6,6 +6,7 @@ ghost use Rattle.cell_store.specs.ListGoals.{list_goal};
 ghost use Rattle.cell_store.specs.StoreView.{AddsText, BindsFurther, CanBeBound, IsValueIn, meaning, text_in, value_term, with_numbers, over_floor};
 ghost use Rattle.run_model.specs.Programs.Clauses.{is_defined};
 ghost use Rattle.clause_compile.specs.AtomNumbers.{name_at};
+ghost use Rattle.region_split.specs.CompoundGoals.{HasNoCompoundFirst, IsCompoundFirst, IsNoCompoundGoal};
 ghost use Rattle.cell_store.specs.UnificationSteps.{IsUnified, OnlyBinds};
 ghost use Rattle.au_model.specs.Terms.Named.{NamedTerm};
 ghost use Rattle.region_split.specs.ChoicePoints.{frames_kept, height_of_cut, IsMarkOf};
@@ -15,7 +16,7 @@ ghost use Rattle.region_split.specs.StackOperations.{new_region, item_here, Keep
 
 use crate::candidates::next_match;
 use crate::choice::{Alternatives, ChoicePoint, Trial};
-use crate::frame::{Frame, FrameBody, FrameItem, Left, Position};
+use crate::frame::{CompoundFirst, Frame, FrameBody, FrameItem, Left, Position};
 use crate::solution::Solution;
 use crate::text::{BodyItem, Text};
 use au_term::{FlatTerm, NoMemory, Shared};
@@ -161,6 +162,60 @@ impl Region {
                     return Left::First(item, frame.cut);
                 }
                 Left::GoesOnAt(frame.after)
+            }
+        }
+    }
+
+    /// The compound that stands first at a position as a goal of the position's own frame, if one does; none at the last place
+    /// that has a number. It is read at once with where what follows is left: where the frame ends there, that is where it goes
+    /// on. So no later goal walks over the frame of a last goal, which is kept for choice points alone.
+    #[inline(always)]
+    pub fn compound_at(&self, position: Position) -> Option<CompoundFirst>
+        requires { IsPositionIn self.now position }
+        ensures { MatchOption result (HasNoCompoundFirst self.now position) (IsCompoundFirst self.now position) }
+    {
+        if position.frame == 0 {
+            return None;
+        }
+        let next = position.at.checked_add(1)?;
+        let frame = &self.frames[position.frame as usize - 1];
+        match frame.body {
+            FrameBody::Text(base) => match self.text.get(position.at) {
+                Some(BodyItem::Goal(place)) => {
+                    let Some((at, base)) = self.store.any_compound(place, base) else {
+                        return None;
+                    };
+                    let after = match self.text.get(next) {
+                        Some(BodyItem::BodyEnd) => frame.after,
+                        _ => Position {
+                            frame: position.frame,
+                            at: next,
+                        },
+                    };
+                    let cut = frame.cut;
+                    Some(CompoundFirst {
+                        at,
+                        base,
+                        cut,
+                        after,
+                    })
+                }
+                Some(BodyItem::BodyEnd) => None,
+                None => None,
+            },
+            FrameBody::One(item) => {
+                if position.at != 0 {
+                    return None;
+                }
+                let Some((at, base)) = compound_in(item) else {
+                    return None;
+                };
+                Some(CompoundFirst {
+                    at,
+                    base,
+                    cut: frame.cut,
+                    after: frame.after,
+                })
             }
         }
     }
@@ -446,4 +501,15 @@ fn frames_kept_by(choices: &[ChoicePoint]) -> u32
         Some(choice) => choice.frames,
         None => 0,
     }
+}
+
+/// The compound that an item is as a goal, if it is one.
+#[inline(always)]
+fn compound_in(item: FrameItem) -> Option<(u32, u32)>
+    ensures { MatchOption result (IsNoCompoundGoal item) (λ c. item ≡ FrameItem.Goal (BindingCell.Compound c.0 c.1)) }
+{
+    let FrameItem::Goal(BindingCell::Compound(at, base)) = item else {
+        return None;
+    };
+    Some((at, base))
 }

@@ -6,7 +6,7 @@ use crate::common::{
     Back, atom, expect, expect_back, expect_back_at_nothing, expect_height, expect_nothing_left,
     expect_reached, integer, region_of, value,
 };
-use au_model::build::{binary, single};
+use au_model::build::{binary, single, unary};
 use au_term::{Cell, FlatTerm, NoMemory};
 use binding_array::BindingCell;
 use clause_compile::{Clause, Place, compile};
@@ -343,4 +343,29 @@ fn leave_nothing(rt: &impl Abort, alloc: Global, region: &mut Region) -> Result<
 fn calls_that_leave_nothing(rt: HostRuntime) -> Result<(), Fail> {
     let mut region = facts(rt.alloc(), 6)?;
     leave_nothing(&rt, rt.alloc(), &mut region)
+}
+
+/// `f(s(N))`.
+fn nested(alloc: Global, number: i64) -> Result<FlatTerm, NoMemory> {
+    unary(alloc, "f", &unary(alloc, "s", &integer(alloc, number)?)?)
+}
+
+/// The text of the facts `f(s(0))`, `f(s(1))` and `f(s(2))`.
+fn nested_text(alloc: Global) -> Result<Text, Fail> {
+    let mut clauses = Vec::new(alloc);
+    for number in 0..3 {
+        clauses.push(compile(alloc, &nested(alloc, number)?, &atom(alloc, "true")?)?)?;
+    }
+    Ok(Text::new(alloc, clauses)?)
+}
+
+/// A constant inside of an argument tells facts apart, so no choice point is left.
+#[test]
+fn facts_with_another_inner_constant_are_passed_over(rt: HostRuntime) -> Result<(), Fail> {
+    let alloc = rt.alloc();
+    let mut region = region_of(alloc, nested_text(alloc)?)?;
+    let reached = call(&rt, alloc, &mut region, nested(alloc, 1)?)?;
+    expect_nothing_left(&rt, reached);
+    expect_height(&rt, &region, 0);
+    Ok(())
 }

@@ -1,6 +1,5 @@
 use Rattle.std.proofs.Common.{Option, Some, None, sym, subst}
-use Rattle.std.specs.Prelude.{IfOk, IfSome, MatchOption}
-use Rattle.std.proofs.lemmas.Result.{IfOk-weaker}
+use Rattle.std.specs.Prelude.{IfSome, MatchOption}
 use Rattle.region_control.specs.Ahead.{compound_goal, LiesAhead}
 use Rattle.region_control.specs.declared.ahead.CompoundAhead.{CompoundAhead}
 use Rattle.region_run.proofs.compounds.compound_first.Goals as goal
@@ -12,5 +11,4 @@ if_some None P Q k = tt
 pub returns : goal.returns
 returns c =
     let r = c.args.region.now in
-    subst (λ s. IfOk c.compound_ahead.result (λ found. IfSome found (λ g. LiesAhead r r s (compound_goal g)))) (sym c.in-Some.is)
-    (IfOk-weaker c.compound_ahead.result _ _ (λ found k. if_some found _ _ k) c.compound_ahead.ensures)
+    subst (λ s. IfSome c.compound_ahead.result (λ g. LiesAhead r r s (compound_goal g))) (sym c.in_ok-start.was) (if_some c.compound_ahead.result _ _ c.compound_ahead.ensures)
