@@ -1,12 +1,14 @@
 -- Lists of one number, and others.
-use Rattle.std.proofs.Common.{◌≡◌, ℕ, zero, suc, ◌<◌, Bool, true, false, cond, nat_lt, List, [], ◌∷◌, length, drop, Option, Some, None, refl, ap, ap₂, ◌∙◌, subst, arith}
+use Rattle.std.proofs.Common.{◌≡◌, ℕ, zero, suc, ◌<◌, Bool, true, false, cond, nat_lt, List, [], ◌∷◌, length, drop, Option, Some, None, refl, sym, ap, ap₂, ◌∙◌, subst, arith}
 use Rattle.proc_index.specs.Places.{merged, put_in}
 use Rattle.clause_index.specs.declared.key.HeadKey.{HeadKey}
 use Rattle.clause_index.specs.declared.key.Class.{Class}
-use Rattle.clause_index.specs.Classes.{is_of}
+use Rattle.clause_index.specs.Classes.{is_of, key_class}
 use Rattle.clause_index.specs.Numbers.{head_numbers_from, only_of}
-use Rattle.clause_index.specs.Cursors.{chain, chain_in, IsNumberBelow}
-use Rattle.clause_index.proofs.ChainLemmas.{IsLinking}
+use Rattle.clause_index.specs.Cursors.{chain, chain_in, numbers_left, IsCursorOf, IsNumberBelow}
+use Rattle.clause_index.specs.declared.cursor.Cursor.{Cursor}
+use Rattle.clause_index.specs.declared.cursor.Cursor.TheVariants.{ByKey}
+use Rattle.clause_index.proofs.ChainLemmas.{IsLinking, by_own}
 
 put_many : (k v : ℕ) (ks : List ℕ) (rest : List ℕ → List ℕ) → only_of (k ∷ put_in v ks rest) ≡ None
 put_many k v [] rest = refl
@@ -62,3 +64,9 @@ both_many class l heads o p n m e d below =
     let b = chain_begins class l heads m (subst (IsNumberBelow (length heads)) d below.1) in
     ap₂ (λ x y. only_of (merged (chain class heads x) (chain class heads y))) e d
     ∙ (ap₂ (λ ns ms. only_of (merged ns ms)) a.is b.is ∙ merged_many n m a.rest b.rest)
+
+-- a cursor that has two chains
+pub both_left : (heads : List HeadKey) (left : Cursor) (o p : Option ℕ) (n m : ℕ) → left ≡ ByKey o p → o ≡ Some n → p ≡ Some m → IsCursorOf heads left → None ≡ only_of (numbers_left heads left)
+both_left heads left o p n m is e d below =
+    let there : IsCursorOf heads (ByKey o p) = subst (IsCursorOf heads) is below in
+    sym (ap (λ l. only_of (numbers_left heads l)) is ∙ both_many key_class by_own heads o p n m e d there)

@@ -189,18 +189,22 @@ impl ClauseIndex {
         }
     }
 
-    /// The clause that such a goal may match, where that is one alone.
+    /// The number that a cursor has left, where that is one alone.
     #[inline(always)]
-    pub fn only_candidate(&self, name: u32, arity: u32, key: Option<NumberKey>) -> Option<u32>
-        ensures only { result ≡ only_of (numbers (can_match name arity key) self.now) }
+    pub fn only(&self, left: Cursor) -> Option<u32>
+        requires { IsCursorOf self.now left }
+        ensures only { result ≡ only_of (numbers_left self.now left) }
         ensures there { IfSome result (λ number. number < length self.now) }
     {
-        match self.candidates(name, arity, key) {
+        match left {
+            Cursor::All(None) => None,
             Cursor::All(Some(number)) => self.alone_in_procedure(number),
-            Cursor::ByKey(Some(number), None) => self.alone_in_class(number),
-            Cursor::ByKey(None, Some(number)) => self.alone_in_class(number),
-            Cursor::ByKey(Some(_left), Some(_right)) => None,
-            Cursor::All(None) | Cursor::ByKey(None, None) => None,
+            Cursor::ByKey(without_key, with_key) => match (without_key, with_key) {
+                (None, None) => None,
+                (Some(number), None) => self.alone_in_class(number),
+                (None, Some(number)) => self.alone_in_class(number),
+                (Some(_first), Some(_other)) => None,
+            },
         }
     }
 

@@ -1,5 +1,5 @@
 -- Clauses that are passed over have no entry.
-use Rattle.std.proofs.Common.{◌≡◌, ℕ, zero, suc, ◌+◌, ◌<◌, ◌≤◌, Bool, true, false, cond, ◌&&◌, ◌||◌, List, [], ◌∷◌, ◌++◌, length, take, drop, Option, Some, None, MatchOption, IfSome, slice_get, refl, sym, ap, ap₂, ◌∙◌, subst, arith}
+use Rattle.std.proofs.Common.{◌≡◌, ℕ, zero, suc, ◌+◌, ◌<◌, ◌≤◌, Bool, true, false, cond, ◌&&◌, ◌||◌, List, [], ◌∷◌, ◌++◌, length, take, drop, Option, Some, None, MatchOption, slice_get, refl, sym, ap, ap₂, ◌∙◌, subst, arith}
 use Rattle.std.specs.List.{list_any}
 use Rattle.au_term.specs.Term.{Term, argument_count}
 use Rattle.au_model.specs.Terms.Forms.{name_of}
@@ -94,18 +94,15 @@ module _ (text : TextView) (st : StoreView) (goal : Term) (g : HeadKey) (next : 
     undefined = λ e. is ∙ none_undefined e;
   }
 
-  is_only : (n : ℕ) → only_of ns ≡ Some n → n < length text.clauses → IsOnlyCandidate text goal next n
-  is_only n e lt =
-      let is = only_is ns n e in
-      record {
-        there = lt;
-        entries = λ h f. ap (entries_of_clauses text goal next h f) (sym is) ∙ all_entries h f;
-        defined = λ u. let none = ap length (sym is ∙ none_undefined u) in omega (arith, none);
-      }
-
-  pub is_only_or_none : (o : Option ℕ) → o ≡ only_of ns → IfSome o (λ n. n < length text.clauses) → IfSome o (IsOnlyCandidate text goal next)
-  is_only_or_none None e lt = tt
-  is_only_or_none (Some n) e lt = is_only n (sym e) lt
+-- one clause alone is left
+pub only_left : (text : TextView) (goal : Term) (next : ℕ) (left : Cursor) → AreCandidates text goal next left → (n : ℕ) → Some n ≡ only_of (numbers_left text.heads left) → n < length text.clauses → IsOnlyCandidate text goal next n
+only_left text goal next left all n e lt =
+    let is : numbers_left text.heads left ≡ n ∷ [] = only_is (numbers_left text.heads left) n (sym e) in
+    record {
+      there = lt;
+      entries = λ h f. ap (entries_of_clauses text goal next h f) (sym is) ∙ all.entries h f;
+      defined = λ u. let none = ap length (sym is ∙ all.undefined u) in omega (arith, none);
+    }
 
 -- an element that is there
 pub record IsThere {X : Type 0} (xs : List X) (i : ℕ) : Type 0 where

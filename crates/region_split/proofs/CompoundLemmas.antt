@@ -1,23 +1,21 @@
 -- Compounds that stand first as goals, as they are read.
-use Rattle.std.proofs.Common.{◌≡◌, ℕ, zero, suc, ◌+◌, ◌-◌, ◌<◌, ◌≤◌, List, [], ◌∷◌, ◌++◌, length, map, get_or, slice_get, Some, None, false, true, refl, sym, ap, ap₂, ◌∙◌, subst, arith}
+use Rattle.std.proofs.Common.{◌≡◌, ℕ, zero, suc, ◌+◌, ◌-◌, ◌<◌, ◌∷◌, length, get_or, slice_get, Some, None, false, refl, sym, ap, ap₂, ◌∙◌, subst, arith}
 use Rattle.std.proofs.lemmas.Option.{slice_get_read}
-use Rattle.au_term.specs.Term.{var_bound}
 use Rattle.au_term.specs.Shifted.{shifted}
 use Rattle.au_model.specs.Terms.TermTypes.{is_compound}
-use Rattle.clause_compile.specs.Places.{IsPlaceOf, meaning_in}
+use Rattle.clause_compile.specs.Places.{meaning_in}
 use Rattle.clause_compile.specs.declared.place.Place.{Place}
 use Rattle.binding_array.specs.declared.cell.BindingCell.TheVariants.{Compound}
 use Rattle.cell_store.specs.ArgumentSteps.{IsCompoundPlace}
 use Rattle.cell_store.specs.StoreView.{text_in}
 use Rattle.region_split.specs.Frames.{own_body_left, body_left, scoped_item, next_position}
-use Rattle.region_split.specs.CompoundGoals.{HasNoCompoundFirst, IsCompoundFirst, IsNoCompoundGoal, is_compound_first, left_in_own, own_left}
-use Rattle.region_split.specs.Regions.{RegionView, IsConsistentRegion, items_here, IsPositionIn, IsPositionOver, IsFirstAt, GoesOnIn}
+use Rattle.region_split.specs.CompoundGoals.{HasNoCompoundFirst, IsCompoundFirst, IsNoCompoundGoal, is_compound_first, left_in_own, left_in_frame}
+use Rattle.region_split.specs.Regions.{RegionView, IsConsistentRegion, IsPositionIn, IsFirstAt, GoesOnIn}
 use Rattle.region_split.specs.declared.frame.Frame.{Frame}
 use Rattle.region_split.specs.declared.frame.FrameBody.TheVariants.{Text, One}
 use Rattle.region_split.specs.declared.frame.FrameItem.{FrameItem}
 use Rattle.region_split.specs.declared.frame.FrameItem.TheVariants.{Goal}
 use Rattle.region_split.specs.declared.frame.Position.{Position}
-use Rattle.region_split.specs.declared.text.BodyItem.{BodyItem}
 use Rattle.region_split.specs.declared.text.BodyItem.TheVariants.{Goal as GoalPlace, BodyEnd}
 use Rattle.region_split.proofs.FrameLemmas.{read_on, read_past}
 use Rattle.region_split.proofs.ItemLemmas.{position_more}
@@ -25,14 +23,14 @@ use Rattle.region_split.proofs.LeftLemmas.{own_first, own_ended, goal_first, end
 
 -- nothing stands first in no frame
 pub no_frame : (r : RegionView) (p : Position) → p.frame ≡ 0 → HasNoCompoundFirst r p
-no_frame r p e few = ap (λ n. is_compound_first (text_in r.store) (own_left r.text.bodies r.frames n p.at)) e
+no_frame r p e few = ap (λ n. is_compound_first (text_in r.store) (left_in_frame r.text.bodies r.frames n p.at)) e
 
 module _ (r : RegionView) (k : IsConsistentRegion r) (p : Position) (f : Frame) (i : IsPositionIn r p) (some : p.frame ≡ 0 → ⊥) (at : f ≡ get_or r.frames (p.frame - 1) f) where
-  own : own_left r.text.bodies r.frames p.frame p.at ≡ own_body_left r.text.bodies f.body f.cut p.at
+  own : left_in_frame r.text.bodies r.frames p.frame p.at ≡ own_body_left r.text.bodies f.body f.cut p.at
   own =
       let place : p.frame ≡ suc (p.frame - 1) = omega (arith, some) in
       let within : p.frame - 1 < length r.frames = let a = i.frame in omega (arith, a, some) in
-      ap (λ n. own_left r.text.bodies r.frames n p.at) place
+      ap (λ n. left_in_frame r.text.bodies r.frames n p.at) place
       ∙ ap (λ o. left_in_own r.text.bodies o p.at) (slice_get_read r.frames (length r.frames) (p.frame - 1) f refl within at)
 
   none_by : is_compound_first (text_in r.store) (own_body_left r.text.bodies f.body f.cut p.at) ≡ false → HasNoCompoundFirst r p

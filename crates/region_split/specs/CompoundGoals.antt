@@ -1,12 +1,11 @@
--- Compounds that stand first as goals.
+-- Compounds that stand first as goals (ISO/IEC 13211-1, 7.7.7: the goal that is executed next).
 use Rattle.std.specs.Prelude.{◌≡◌, ◌+◌, ◌^◌, ◌<◌, ◌≤◌, ℕ, zero, suc, Bool, false, List, [], ◌∷◌, length, Option, Some, None, slice_get}
 use Rattle.au_term.specs.Shifted.{shifted}
 use Rattle.au_model.specs.Terms.TermTypes.{is_compound}
 use Rattle.clause_compile.specs.Places.{CodeView, meaning_in}
-use Rattle.clause_compile.specs.declared.place.Place.{Place}
 use Rattle.binding_array.specs.Represented.{cell_term}
 use Rattle.binding_array.specs.declared.cell.BindingCell.TheVariants.{Compound}
-use Rattle.cell_store.specs.StoreView.{StoreView, IsValueIn, text_in, value_term}
+use Rattle.cell_store.specs.StoreView.{IsValueIn, text_in}
 use Rattle.region_split.specs.Frames.{LeftItem, PlacedGoal, OwnItem, own_body_left, scoped_item}
 use Rattle.region_split.specs.Regions.{RegionView, items_here, IsPositionOver}
 use Rattle.region_split.specs.declared.frame.CompoundFirst.{CompoundFirst}
@@ -41,13 +40,13 @@ abbrev pub left_in_own : List BodyItem → Option Frame → ℕ → List LeftIte
 left_in_own bodies None at = []
 left_in_own bodies (Some f) at = own_body_left bodies f.body f.cut at
 
-abbrev pub own_left : List BodyItem → List Frame → ℕ → ℕ → List LeftItem
-own_left bodies frames zero at = []
-own_left bodies frames (suc n) at = left_in_own bodies (slice_get frames n) at
+abbrev pub left_in_frame : List BodyItem → List Frame → ℕ → ℕ → List LeftItem
+left_in_frame bodies frames zero at = []
+left_in_frame bodies frames (suc n) at = left_in_own bodies (slice_get frames n) at
 
 -- no goal that is a compound stands first in a position's own frame, unless no number is left for the place after it
 abbrev pub HasNoCompoundFirst : RegionView → Position → Type 0
-HasNoCompoundFirst r p = p.at + 1 < 2 ^ 32 → is_compound_first (text_in r.store) (own_left r.text.bodies r.frames p.frame p.at) ≡ false
+HasNoCompoundFirst r p = p.at + 1 < 2 ^ 32 → is_compound_first (text_in r.store) (left_in_frame r.text.bodies r.frames p.frame p.at) ≡ false
 
 -- a goal that is a compound stands first at a position, before what follows
 pub record IsCompoundFirst (r : RegionView) (p : Position) (g : CompoundFirst) : Type 0 where

@@ -3,11 +3,11 @@ ghost use Rattle.std.specs.Prelude.{◌≡◌, ◌<◌, IfOk, length, true};
 ghost use Rattle.cell_store.specs.StoreView.{IsValueIn, meaning, text_in};
 ghost use Rattle.au_model.specs.Terms.Forms.{is_callable};
 ghost use Rattle.clause_index.specs.HeadKeys.{IsHeadKeyOf};
-ghost use Rattle.region_split.specs.Candidates.{IsOnlyCandidate};
+ghost use Rattle.region_split.specs.Candidates.{AreCandidates, IsOnlyCandidate};
 ghost use Rattle.region_split.specs.Regions.{IsPositionIn, IsPositionOver};
 ghost use Rattle.region_split.specs.ClauseTrials.{TriesClause, KeepsChoices, Calls};
 
-use crate::candidates::{candidates, first_match, next_match, only_candidate};
+use crate::candidates::{candidates, first_match, next_match};
 use crate::choice::{Alternatives, Trial};
 use crate::frame::Position;
 use crate::keys::goal_numbers;
@@ -15,7 +15,7 @@ use crate::region::Region;
 use crate::text::BodyItem;
 use au_term::NoMemory;
 use binding_array::BindingCell;
-use clause_index::HeadKey;
+use clause_index::{Cursor, HeadKey};
 
 impl Region {
     /// Tries a clause for a goal, in whose body a cut leaves so many choice points, and gives the position at which its body
@@ -74,13 +74,14 @@ impl Region {
         requires after { IsPositionIn self.old after }
         ensures { IfOk result (Calls self.old self.new goal after) }
     {
-        match only_candidate(self.text(), self.store(), goal, numbers) {
+        let left = candidates(self.text(), self.store(), goal, numbers);
+        match self.text().only(left) {
             Some(clause) => self.call_only(goal, clause, after),
-            None => self.call_among(goal, numbers, after),
+            None => self.call_among(goal, left, after),
         }
     }
 
-    /// The same where one clause alone may match: no cursor is made.
+    /// The same where one clause alone may match.
     #[inline(always)]
     fn call_only(
         &mut self,
@@ -102,21 +103,21 @@ impl Region {
         self.try_clause(trial, cut)
     }
 
-    /// The same whatever clauses may match.
+    /// The same whatever clauses are left that may match.
     #[inline(always)]
     fn call_among(
         &mut self,
         goal: BindingCell,
-        numbers: HeadKey,
+        left: Cursor,
         after: Position,
     ) -> Result<Option<Position>, NoMemory>
         requires goal { IsValueIn self.old.store goal }
-        requires numbers { IsHeadKeyOf (text_in self.old.store).names (meaning self.old.store goal) numbers }
+        requires left { AreCandidates self.old.text (meaning self.old.store goal) self.old.store.now.next left }
         requires after { IsPositionIn self.old after }
         ensures { IfOk result (Calls self.old self.new goal after) }
     {
         let cut = self.scope()?;
-        let mut left = candidates(self.text(), self.store(), goal, numbers);
+        let mut left = left;
         let Some(clause) = first_match(self.text(), self.store(), goal, &mut left) else {
             return Ok(None);
         };

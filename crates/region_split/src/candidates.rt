@@ -3,11 +3,9 @@ ghost use Rattle.std.specs.Prelude.{◌≡◌, ◌<◌, IfSome, MatchOption, Som
 ghost use Rattle.au_term.specs.Term.{argument};
 ghost use Rattle.proc_index.specs.Keys.{key_of};
 ghost use Rattle.cell_store.specs.StoreView.{IsValueIn, meaning, text_in};
-ghost use Rattle.clause_index.specs.Classes.{can_match};
 ghost use Rattle.clause_index.specs.HeadKeys.{IsHeadKeyOf, IsKeyAmong, named_key};
-ghost use Rattle.clause_index.specs.Numbers.{numbers, only_of};
 ghost use Rattle.clause_index.specs.Cursors.{IsCursorOf};
-ghost use Rattle.region_split.specs.Candidates.{AreCandidates, IsOnlyCandidate, FindsClause, HaveNoEntry, AreToldApart, numbers_differ};
+ghost use Rattle.region_split.specs.Candidates.{AreCandidates, FindsClause, HaveNoEntry, AreToldApart, numbers_differ};
 
 use crate::keys::key_of_value;
 use crate::text::Text;
@@ -25,24 +23,6 @@ pub(crate) fn candidates(text: &Text, store: &Store, goal: BindingCell, by: Head
     // The proof reads off that no two names are the same.
     let _next = store.next();
     text.candidates(by.name, by.arity, by.first)
-}
-
-/// The clause that a goal may match by these, where that is one alone.
-#[inline(always)]
-pub(crate) fn only_candidate(
-    text: &Text,
-    store: &Store,
-    goal: BindingCell,
-    by: HeadKey,
-) -> Option<u32>
-    requires program { store.now.program ≡ text.now.code }
-    requires numbers { IsHeadKeyOf (text_in store.now).names (meaning store.now goal) by }
-    ensures only { result ≡ only_of (numbers (can_match by.name by.arity by.first) text.now.heads) }
-    ensures stands { IfSome result (IsOnlyCandidate text.now (meaning store.now goal) store.now.now.next) }
-{
-    // The proof reads off that no two names are the same.
-    let _next = store.next();
-    text.only_candidate(by.name, by.arity, by.first)
 }
 
 /// Takes the first clause off those that are left which may match a goal.

@@ -1,4 +1,7 @@
 //! Frames.
+ghost use Rattle.std.specs.Prelude.{◌≡◌, MatchOption};
+ghost use Rattle.region_split.specs.CompoundGoals.{IsNoCompoundGoal};
+
 use binding_array::BindingCell;
 
 /// A place in a frame's body; frame 0 is no frame, where nothing is left to do.
@@ -24,6 +27,19 @@ pub enum FrameItem {
     Collect(BindingCell),
     /// The removal of the clause with a number.
     Removal(u64),
+}
+
+impl FrameItem {
+    /// The place of the compound that it is as a goal and what is added to its variables, if it is one.
+    #[inline(always)]
+    pub(crate) fn compound(self) -> Option<(u32, u32)>
+        ensures { MatchOption result (IsNoCompoundGoal self) (λ c. self ≡ FrameItem.Goal (BindingCell.Compound c.0 c.1)) }
+    {
+        let FrameItem::Goal(BindingCell::Compound(at, base)) = self else {
+            return None;
+        };
+        Some((at, base))
+    }
 }
 
 /// What a frame does before it goes on.

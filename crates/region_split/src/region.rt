@@ -6,13 +6,13 @@ ghost use Rattle.cell_store.specs.ListGoals.{list_goal};
 ghost use Rattle.cell_store.specs.StoreView.{AddsText, BindsFurther, CanBeBound, IsValueIn, meaning, text_in, value_term, with_numbers, over_floor};
 ghost use Rattle.run_model.specs.Programs.Clauses.{is_defined};
 ghost use Rattle.clause_compile.specs.AtomNumbers.{name_at};
-ghost use Rattle.region_split.specs.CompoundGoals.{HasNoCompoundFirst, IsCompoundFirst, IsNoCompoundGoal};
+ghost use Rattle.region_split.specs.CompoundGoals.{HasNoCompoundFirst, IsCompoundFirst};
 ghost use Rattle.cell_store.specs.UnificationSteps.{IsUnified, OnlyBinds};
 ghost use Rattle.au_model.specs.Terms.Named.{NamedTerm};
-ghost use Rattle.region_split.specs.ChoicePoints.{frames_kept, height_of_cut, IsMarkOf};
+ghost use Rattle.region_split.specs.ChoicePoints.{frames_kept, height_of_cut};
 ghost use Rattle.region_split.specs.QueryEnds.{AreEndsAtFloor, AreEndsOldest, MayComeOver};
-ghost use Rattle.region_split.specs.Regions.{entries_of, heights_of, items_here, IsLeftAt, IsItemHere, IsPositionIn, IsPositionOver, AreAlternativesIn};
-ghost use Rattle.region_split.specs.StackOperations.{new_region, item_here, KeepsPositions, PutsBefore, AddsFrame, AddsChoice, CutsTo, TakesNewest, DropsNewest, HasNoClauseOnTop, TakesClause, HasNoSolutionOnTop, TakesSolution, HasFindallAt, AddsResult, StaysStanding};
+ghost use Rattle.region_split.specs.Regions.{entries_of, heights_of, items_here, IsLeftAt, IsPositionIn, AreAlternativesIn};
+ghost use Rattle.region_split.specs.StackOperations.{new_region, KeepsPositions, AddsFrame, AddsChoice, CutsTo, TakesNewest, DropsNewest, HasNoClauseOnTop, TakesClause, HasNoSolutionOnTop, TakesSolution, HasFindallAt, AddsResult, StaysStanding};
 
 use crate::candidates::next_match;
 use crate::choice::{Alternatives, ChoicePoint, Trial};
@@ -207,7 +207,7 @@ impl Region {
                 if position.at != 0 {
                     return None;
                 }
-                let Some((at, base)) = compound_in(item) else {
+                let Some((at, base)) = item.compound() else {
                     return None;
                 };
                 Some(CompoundFirst {
@@ -240,41 +240,6 @@ impl Region {
             self.frames.push(frame)?;
         }
         Ok(number)
-    }
-
-    /// Makes a frame of a body of the text, with a number added to its variables, and gives the frame's number.
-    #[inline(always)]
-    pub(crate) fn push_body(
-        &mut self,
-        base: u32,
-        cut: u32,
-        after: Position,
-    ) -> Result<u32, NoMemory>
-        requires { after.frame ≤ length self.old.frames }
-        ensures ok { IfOk result (AddsFrame self.old self.new (record { body = FrameBody.Text base; cut = cut; after = after })) }
-        ensures err { OnErr result (self.new ≡ self.old) }
-    {
-        let body = FrameBody::Text(base);
-        self.push_frame(Frame { body, cut, after })
-    }
-
-    /// Puts an item with its scope before what follows at a position, and gives the position at which it is left.
-    #[inline]
-    pub fn push_item(
-        &mut self,
-        item: FrameItem,
-        cut: u32,
-        after: Position,
-    ) -> Result<Position, NoMemory>
-        requires item { IsItemHere self.old item }
-        requires mark { IsMarkOf self.old.choices cut item }
-        requires after { IsPositionOver self.old cut after }
-        ensures ok { IfOk result (PutsBefore self.old self.new (item_here self.old item cut) cut after) }
-        ensures err { OnErr result (self.new ≡ self.old) }
-    {
-        let body = FrameBody::One(item);
-        let frame = self.push_frame(Frame { body, cut, after })?;
-        Ok(Position { frame, at: 0 })
     }
 
     /// Puts a choice point on top, whose alternatives go on at a position.
@@ -501,15 +466,4 @@ fn frames_kept_by(choices: &[ChoicePoint]) -> u32
         Some(choice) => choice.frames,
         None => 0,
     }
-}
-
-/// The compound that an item is as a goal, if it is one.
-#[inline(always)]
-fn compound_in(item: FrameItem) -> Option<(u32, u32)>
-    ensures { MatchOption result (IsNoCompoundGoal item) (λ c. item ≡ FrameItem.Goal (BindingCell.Compound c.0 c.1)) }
-{
-    let FrameItem::Goal(BindingCell::Compound(at, base)) = item else {
-        return None;
-    };
-    Some((at, base))
 }

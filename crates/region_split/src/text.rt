@@ -128,7 +128,7 @@ impl Text {
     }
 
     /// The clauses that a goal with this name, number of arguments and first key may match.
-    #[inline]
+    #[inline(always)]
     pub(crate) fn candidates(&self, name: u32, arity: u32, key: Option<NumberKey>) -> Cursor
         ensures numbers { numbers_left self.now.heads result ≡ numbers (can_match name arity key) self.now.heads }
         ensures cursor { IsCursorOf self.now.heads result }
@@ -137,19 +137,14 @@ impl Text {
         self.index.candidates(name, arity, key)
     }
 
-    /// The clause that such a goal may match, where that is one alone.
+    /// The clause that a cursor has left, where that is one alone.
     #[inline(always)]
-    pub(crate) fn only_candidate(
-        &self,
-        name: u32,
-        arity: u32,
-        key: Option<NumberKey>,
-    ) -> Option<u32>
-        ensures only { result ≡ only_of (numbers (can_match name arity key) self.now.heads) }
+    pub(crate) fn only(&self, left: Cursor) -> Option<u32>
+        requires { IsCursorOf self.now.heads left }
+        ensures only { result ≡ only_of (numbers_left self.now.heads left) }
         ensures there { IfSome result (λ clause. clause < length self.now.clauses) }
-        ensures heads { AreHeadKeys self.now.code.names self.now.clauses self.now.heads }
     {
-        self.index.only_candidate(name, arity, key)
+        self.index.only(left)
     }
 
     /// Takes the first clause off those that a cursor has left.

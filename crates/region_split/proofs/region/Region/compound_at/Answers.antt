@@ -1,4 +1,4 @@
-use Rattle.std.proofs.Common.{◌≡◌, ◌+◌, ℕ, slice_get, Some, false, MatchOption, sym, ap, ◌∙◌, subst, arith}
+use Rattle.std.proofs.Common.{◌≡◌, ◌+◌, ℕ, slice_get, Some, false, MatchOption, sym, ap, ◌∙◌, subst}
 use Rattle.std.specs.Arc.{arc_value}
 use Rattle.au_model.specs.Terms.TermTypes.{is_compound}
 use Rattle.au_term.specs.Shifted.{shifted}
@@ -12,7 +12,7 @@ use Rattle.region_split.specs.Texts.{TextView}
 use Rattle.region_split.specs.declared.frame.FrameBody.TheVariants.{One}
 use Rattle.region_split.specs.declared.frame.FrameItem.TheVariants.{Goal}
 use Rattle.region_split.proofs.LeftLemmas.{goal_there}
-use Rattle.region_split.proofs.CompoundLemmas.{no_frame, item_past, item_no_compound, item_compound, body_ended, body_past, goal_no_compound, goal_before, goal_last}
+use Rattle.region_split.proofs.CompoundLemmas.{item_past, item_no_compound, item_compound, body_ended, body_past, goal_no_compound, goal_before, goal_last}
 use Rattle.region_split.proofs.region.Region.compound_at.Goals.{in-Some-BodyEnd-get, in_default-get, in_default-get-2}
 use Rattle.region_split.proofs.region.Region.compound_at.Goals as goal
 
@@ -46,11 +46,11 @@ returns-then-position-ne0 c =
     subst (λ (x : RegionView). HasNoCompoundFirst x c.args.position) c.self.view_is
     (item_past r c.self.invariant c.args.position c.index-frame.result.now i c.if-position-eq0.false c.index-frame.ensures c.in-One.item c.in-One.is c.if-position-ne0.true)
 
-pub returns-in_default-compound_in : goal.returns-in_default-compound_in
-returns-in_default-compound_in c =
+pub returns-in_default-compound : goal.returns-in_default-compound
+returns-in_default-compound c =
     let s = c.self.inside in let r : RegionView = record { text = arc_value s.text; store = s.store; frames = s.frames.items; choices = s.choices.items } in
     let i = subst (λ (x : RegionView). IsPositionIn x c.args.position) (sym c.self.view_is) c.requires in
-    let no = subst (λ o. MatchOption o (IsNoCompoundGoal c.in-One.item) (λ x. c.in-One.item ≡ Goal (Compound x.0 x.1))) c.in_default-compound_in.is c.compound_in.ensures in
+    let no = subst (λ o. MatchOption o (IsNoCompoundGoal c.in-One.item) (λ x. c.in-One.item ≡ Goal (Compound x.0 x.1))) c.in_default-compound.is c.compound.ensures in
     subst (λ (x : RegionView). HasNoCompoundFirst x c.args.position) c.self.view_is
     (item_no_compound r c.self.invariant c.args.position c.index-frame.result.now i c.if-position-eq0.false c.index-frame.ensures c.in-One.item c.in-One.is c.if-position-ne0.false no)
 
@@ -88,9 +88,9 @@ returns-in-None c =
     subst (λ (x : RegionView). HasNoCompoundFirst x c.args.position) c.self.view_is
     (body_past r c.self.invariant c.args.position c.index-frame.result.now i c.if-position-eq0.false c.index-frame.ensures c.in-Text.base c.in-Text.is (read ∙ c.in-None.is))
 
-pub returns-in-Some-compound_in : goal.returns-in-Some-compound_in
-returns-in-Some-compound_in c =
+pub returns-in-Some-compound : goal.returns-in-Some-compound
+returns-in-Some-compound c =
     let s = c.self.inside in let r : RegionView = record { text = arc_value s.text; store = s.store; frames = s.frames.items; choices = s.choices.items } in
     let i = subst (λ (x : RegionView). IsPositionIn x c.args.position) (sym c.self.view_is) c.requires in
-    subst (λ (x : RegionView). IsCompoundFirst x c.args.position (record { at = c.in-Some-compound_in.at; base = c.in-Some-compound_in.base; cut = c.index-frame.result.now.cut; after = c.index-frame.result.now.after })) c.self.view_is
-    (item_compound r c.self.invariant c.args.position c.index-frame.result.now i c.if-position-eq0.false c.index-frame.ensures c.in-Some-compound_in.at c.in-Some-compound_in.base (c.in-One.is ∙ ap One c.in-Some-compound_in.ensures) c.if-position-ne0.false)
+    subst (λ (x : RegionView). IsCompoundFirst x c.args.position (record { at = c.in-Some-compound.at; base = c.in-Some-compound.base; cut = c.index-frame.result.now.cut; after = c.index-frame.result.now.after })) c.self.view_is
+    (item_compound r c.self.invariant c.args.position c.index-frame.result.now i c.if-position-eq0.false c.index-frame.ensures c.in-Some-compound.at c.in-Some-compound.base (c.in-One.is ∙ ap One c.in-Some-compound.ensures) c.if-position-ne0.false)
