@@ -7,7 +7,7 @@ ghost use Rattle.region_split.specs.Candidates.{AreCandidates, IsOnlyCandidate};
 ghost use Rattle.region_split.specs.Regions.{IsPositionIn, IsPositionOver};
 ghost use Rattle.region_split.specs.ClauseTrials.{TriesClause, KeepsChoices, Calls};
 
-use crate::candidates::{candidates, first_match, next_match};
+use crate::candidates::{candidates, first_match, match_after};
 use crate::choice::{Alternatives, Trial};
 use crate::frame::Position;
 use crate::keys::goal_numbers;
@@ -126,7 +126,7 @@ impl Region {
             clause,
             after,
         };
-        let Some(clause) = next_match(self.text(), self.store(), goal, &mut left) else {
+        let Some(clause) = match_after(self.text(), self.store(), goal, clause, &mut left) else {
             return self.try_clause(trial, cut);
         };
         self.push_choice(Alternatives::Clauses { goal, clause, left }, after)?;

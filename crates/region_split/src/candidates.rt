@@ -66,6 +66,35 @@ pub(crate) fn first_match(
     next_match(text, store, goal, left)
 }
 
+/// The same after a clause was found: one that has the same keys as that is not told apart either.
+#[inline(always)]
+pub(crate) fn match_after(
+    text: &Text,
+    store: &Store,
+    goal: BindingCell,
+    found: u32,
+    left: &mut Cursor,
+) -> Option<u32>
+    requires program { store.now.program ≡ text.now.code }
+    requires there { IsValueIn store.now goal }
+    requires cursor { IsCursorOf text.now.heads left.old }
+    ensures { MatchOption result (HaveNoEntry text.now (meaning store.now goal) store.now.now.next left.old) (FindsClause text.now (meaning store.now goal) store.now.now.next left.old left.new) }
+{
+    let clause = text.take(left)?;
+    if is_alike(text, found, clause) || !are_apart(text, store, goal, clause) {
+        return Some(clause);
+    }
+    next_match(text, store, goal, left)
+}
+
+/// Whether a clause stands after another of its procedure that has the same keys.
+#[inline(always)]
+fn is_alike(text: &Text, other: u32, clause: u32) -> bool
+    requires { clause < length text.now.clauses }
+{
+    clause > 0 && clause - 1 == other && text.placed(clause).is_alike
+}
+
 /// Whether a goal's second, third or fourth argument tells it apart from a clause's head, so that they don't unify, or an argument
 /// inside of one where the head has a constant. Nothing is read of the goal where none of these has a key in the head.
 #[inline]

@@ -14,7 +14,7 @@ ghost use Rattle.region_split.specs.QueryEnds.{AreEndsAtFloor, AreEndsOldest, Ma
 ghost use Rattle.region_split.specs.Regions.{entries_of, heights_of, items_here, IsLeftAt, IsPositionIn, AreAlternativesIn};
 ghost use Rattle.region_split.specs.StackOperations.{new_region, KeepsPositions, AddsFrame, AddsChoice, CutsTo, TakesNewest, DropsNewest, HasNoClauseOnTop, TakesClause, HasNoSolutionOnTop, TakesSolution, HasFindallAt, AddsResult, StaysStanding};
 
-use crate::candidates::next_match;
+use crate::candidates::match_after;
 use crate::choice::{Alternatives, ChoicePoint, Trial};
 use crate::frame::{CompoundFirst, Frame, FrameBody, FrameItem, Left, Position};
 use crate::solution::Solution;
@@ -326,7 +326,7 @@ impl Region {
             after,
         };
         self.store.undo_to(count - 1);
-        let Some(clause) = next_match(&self.text, &self.store, goal, &mut left) else {
+        let Some(clause) = match_after(&self.text, &self.store, goal, clause, &mut left) else {
             let _last = self.take_newest();
             return Some(trial);
         };

@@ -35,7 +35,8 @@ pub struct InnerArgument {
 
 /// Where a clause is: the place of its head, and where its body begins among the bodies; and how many variables it has. Only
 /// arguments of the head from `keyed_from` on and before `keyed_to` are looked at to tell a goal apart, counted from 0, of the
-/// second to the fourth the others have no key; and the first constant that stands inside of one of the first four.
+/// second to the fourth the others have no key; and the first constant that stands inside of one of the first four. Where it
+/// is alike, the clause before it is of its procedure and has the same keys there.
 #[derive(Clone, Copy, Debug, PartialEq, Eq)]
 pub struct PlacedClause {
     pub head: Place,
@@ -44,6 +45,18 @@ pub struct PlacedClause {
     pub keyed_from: u32,
     pub keyed_to: u32,
     pub inner: Option<InnerArgument>,
+    pub is_alike: bool,
+}
+
+/// A head's functor and what tells the heads of one procedure apart, but for the first argument.
+#[derive(Clone, Copy, PartialEq, Eq)]
+struct LaterKeys {
+    functor: Option<NumberKey>,
+    second: Option<NumberKey>,
+    third: Option<NumberKey>,
+    fourth: Option<NumberKey>,
+    inner: Option<InnerArgument>,
+    constant: Option<NumberKey>,
 }
 
 /// A program's text: its places, its bodies, and its clauses. It knows where each clause is, and finds those that a goal may
@@ -199,20 +212,22 @@ fn place_clauses(
     ensures heads { OnOk result (AreHeadKeys code.new.names (map arc_value clauses.now) heads.new.items) }
 {
     let mut placed = Vec::new(alloc);
+    let mut last = None;
     for clause in clauses {
-        let place = place_clause(alloc, clause, code, bodies)?;
+        let place = place_clause(alloc, clause, code, bodies, &mut last)?;
         heads.push(HeadKey::of_head(code, place.head))?;
         placed.push(place)?;
     }
     Ok(placed)
 }
 
-/// Adds a clause, and gives where it is.
+/// Adds a clause, and gives where it is. The keys are those of the last one that was added.
 fn place_clause(
     alloc: Global,
     clause: &Clause,
     code: &mut Code,
     bodies: &mut Vec<BodyItem>,
+    last: &mut Option<LaterKeys>,
 ) -> Result<PlacedClause, NoMemory>
     ensures { IfOk result (AddsClause code.old code.new bodies.old.items bodies.new.items clause.now) }
 {
@@ -226,6 +241,7 @@ fn place_clause(
     push_body(&places.goals, bodies)?;
     let (keyed_from, keyed_to) = keyed_arguments(code, places.head);
     let inner = first_inner_constant(code, places.head);
+    let is_alike = is_like_last(code, places.head, inner, last);
     Ok(PlacedClause {
         head: places.head,
         body: body as u32,
@@ -233,7 +249,40 @@ fn place_clause(
         keyed_from,
         keyed_to,
         inner,
+        is_alike,
     })
+}
+
+/// Whether the head at a place has the keys of the last one, in whose place it stands then.
+fn is_like_last(
+    code: &Code,
+    head: Place,
+    inner: Option<InnerArgument>,
+    last: &mut Option<LaterKeys>,
+) -> bool
+    requires { IsPlaceOf code.now head }
+{
+    let keys = Some(later_keys(code, head, inner));
+    let is_same = *last == keys;
+    *last = keys;
+    is_same
+}
+
+/// The functor of the head at a place, and what else tells it apart.
+fn later_keys(code: &Code, head: Place, inner: Option<InnerArgument>) -> LaterKeys
+    requires { IsPlaceOf code.now head }
+{
+    LaterKeys {
+        functor: NumberKey::of_place(code, head),
+        second: argument_key(code, head, 1),
+        third: argument_key(code, head, 2),
+        fourth: argument_key(code, head, 3),
+        inner,
+        constant: match inner {
+            Some(inner) => inner_key(code, head, inner),
+            None => None,
+        },
+    }
 }
 
 /// The first of a head's second to fourth arguments that has a key, counted from 0, and the one after the last that has.

@@ -19,22 +19,22 @@ undo_to-requires c =
     let many : c.len-count.result ≡ length s.choices.items = let e = c.len-count.ensures in omega (arith, e) in
     mark_there r c.self.invariant c.len-count.result many c.if-count-eq0.false
 
-pub next_match-requires-clause-program : goal.next_match-requires-clause-program
-next_match-requires-clause-program c =
+pub match_after-requires-clause-program : goal.match_after-requires-clause-program
+match_after-requires-clause-program c =
     let s = c.self.inside in
     let r : RegionView = record { text = arc_value s.text; store = s.store; frames = s.frames.items; choices = s.choices.items } in
     let many : c.len-count.result ≡ length s.choices.items = let e = c.len-count.ensures in omega (arith, e) in
     program_is r c.self.invariant c.len-count.result many c.if-count-eq0.false c.undo_to.new.self c.undo_to.ensures ∙ ap (λ (t : TextView). t.code) (sym c.deref.ensures)
 
-pub next_match-requires-clause-there : goal.next_match-requires-clause-there
-next_match-requires-clause-there c =
+pub match_after-requires-clause-there : goal.match_after-requires-clause-there
+match_after-requires-clause-there c =
     let s = c.self.inside in
     let r : RegionView = record { text = arc_value s.text; store = s.store; frames = s.frames.items; choices = s.choices.items } in
     let many : c.len-count.result ≡ length s.choices.items = let e = c.len-count.ensures in omega (arith, e) in
     goal_there r c.self.invariant c.len-count.result many c.if-count-eq0.false c.undo_to.new.self c.undo_to.ensures c.index-newest.result.now c.index-newest.ensures c.in-Some.goal c.in-Some.clause c.in-Some.left c.in-Some.ensures
 
-pub next_match-requires-clause-cursor : goal.next_match-requires-clause-cursor
-next_match-requires-clause-cursor c =
+pub match_after-requires-clause-cursor : goal.match_after-requires-clause-cursor
+match_after-requires-clause-cursor c =
     let s = c.self.inside in
     let r : RegionView = record { text = arc_value s.text; store = s.store; frames = s.frames.items; choices = s.choices.items } in
     let many : c.len-count.result ≡ length s.choices.items = let e = c.len-count.ensures in omega (arith, e) in
@@ -47,13 +47,13 @@ invariant_of-self c =
     let many : c.len-count.result ≡ length s.choices.items = let e = c.len-count.ensures in omega (arith, e) in
     undone_is r c.self.invariant c.len-count.result many c.if-count-eq0.false c.undo_to.new.self c.undo_to.ensures
 
-pub returns-in_default-next_match : goal.returns-in_default-next_match
-returns-in_default-next_match c =
+pub returns-in_default-match_after : goal.returns-in_default-match_after
+returns-in_default-match_after c =
     let s = c.self.inside in
     let r : RegionView = record { text = arc_value s.text; store = s.store; frames = s.frames.items; choices = s.choices.items } in
     let many : c.len-count.result ≡ length s.choices.items = let e = c.len-count.ensures in omega (arith, e) in
     let trial : Trial = record { goal = c.in-Some.goal; clause = c.in-Some.clause; after = c.index-newest.result.now.after } in
-    let none = subst (λ (t : TextView). HaveNoEntry t (meaning c.undo_to.new.self c.in-Some.goal) c.undo_to.new.self.now.next c.in-Some.left) c.deref.ensures c.in_default-next_match.ensures in
+    let none = subst (λ (t : TextView). HaveNoEntry t (meaning c.undo_to.new.self c.in-Some.goal) c.undo_to.new.self.now.next c.in-Some.left) c.deref.ensures c.in_default-match_after.ensures in
     subst (λ (x : RegionView). TakesClause x c.take_newest-last.new.self trial) c.self.view_is
     (none_left r c.self.invariant c.len-count.result many c.if-count-eq0.false c.undo_to.new.self c.undo_to.ensures c.index-newest.result.now c.index-newest.ensures c.in-Some.goal c.in-Some.clause c.in-Some.left c.in-Some.ensures none c.take_newest-last.new.self c.take_newest-last.result c.take_newest-last.ensures)
 
@@ -62,8 +62,8 @@ invariant_of-self-2 c =
     let s = c.self.inside in
     let r : RegionView = record { text = arc_value s.text; store = s.store; frames = s.frames.items; choices = s.choices.items } in
     let many : c.len-count.result ≡ length s.choices.items = let e = c.len-count.ensures in omega (arith, e) in
-    changed_is r c.self.invariant c.len-count.result many c.if-count-eq0.false c.undo_to.new.self c.undo_to.ensures c.index-newest.result.now c.index-newest.ensures c.in-Some.goal c.in-Some.clause c.in-Some.left c.in-Some.ensures c.in-Some-next_match.clause c.next_match.new.left
-    (subst (λ (t : TextView). FindsClause t (meaning c.undo_to.new.self c.in-Some.goal) c.undo_to.new.self.now.next c.in-Some.left c.next_match.new.left c.in-Some-next_match.clause) c.deref.ensures c.in-Some-next_match.ensures)
+    changed_is r c.self.invariant c.len-count.result many c.if-count-eq0.false c.undo_to.new.self c.undo_to.ensures c.index-newest.result.now c.index-newest.ensures c.in-Some.goal c.in-Some.clause c.in-Some.left c.in-Some.ensures c.in-Some-match_after.clause c.match_after.new.left
+    (subst (λ (t : TextView). FindsClause t (meaning c.undo_to.new.self c.in-Some.goal) c.undo_to.new.self.now.next c.in-Some.left c.match_after.new.left c.in-Some-match_after.clause) c.deref.ensures c.in-Some-match_after.ensures)
     c.index_mut.result.now c.index_mut.ensures.value
 
 pub returns : goal.returns
@@ -72,9 +72,9 @@ returns c =
     let r : RegionView = record { text = arc_value s.text; store = s.store; frames = s.frames.items; choices = s.choices.items } in
     let many : c.len-count.result ≡ length s.choices.items = let e = c.len-count.ensures in omega (arith, e) in
     let trial : Trial = record { goal = c.in-Some.goal; clause = c.in-Some.clause; after = c.index-newest.result.now.after } in
-    let newest : ChoicePoint = record { alternatives = Clauses c.in-Some.goal c.in-Some-next_match.clause c.next_match.new.left; after = c.index_mut.result.now.after; frames = c.index_mut.result.now.frames } in
+    let newest : ChoicePoint = record { alternatives = Clauses c.in-Some.goal c.in-Some-match_after.clause c.match_after.new.left; after = c.index_mut.result.now.after; frames = c.index_mut.result.now.frames } in
     let new : RegionView = record r { store = c.undo_to.new.self; choices = slice_set s.choices.items (c.len-count.result - 1) newest } in
     subst (λ (x : RegionView). TakesClause x new trial) c.self.view_is
-    (others_left r c.self.invariant c.len-count.result many c.if-count-eq0.false c.undo_to.new.self c.undo_to.ensures c.index-newest.result.now c.index-newest.ensures c.in-Some.goal c.in-Some.clause c.in-Some.left c.in-Some.ensures c.in-Some-next_match.clause c.next_match.new.left
-    (subst (λ (t : TextView). FindsClause t (meaning c.undo_to.new.self c.in-Some.goal) c.undo_to.new.self.now.next c.in-Some.left c.next_match.new.left c.in-Some-next_match.clause) c.deref.ensures c.in-Some-next_match.ensures)
+    (others_left r c.self.invariant c.len-count.result many c.if-count-eq0.false c.undo_to.new.self c.undo_to.ensures c.index-newest.result.now c.index-newest.ensures c.in-Some.goal c.in-Some.clause c.in-Some.left c.in-Some.ensures c.in-Some-match_after.clause c.match_after.new.left
+    (subst (λ (t : TextView). FindsClause t (meaning c.undo_to.new.self c.in-Some.goal) c.undo_to.new.self.now.next c.in-Some.left c.match_after.new.left c.in-Some-match_after.clause) c.deref.ensures c.in-Some-match_after.ensures)
     c.index_mut.result.now c.index_mut.ensures.value)
