@@ -327,6 +327,28 @@ fn facts_in_their_order(rt: HostRuntime) -> Result<(), Fail> {
     call_in_order(&rt, rt.alloc(), &mut region)
 }
 
+/// The text of the facts `f(0,1)`, `f(1,1)` and `f(2,0)`.
+fn alike_text(alloc: Global) -> Result<Text, Fail> {
+    let mut clauses = Vec::new(alloc);
+    for number in 0..3 {
+        clauses.push(fact_clause(alloc, number, 1 - number / 2)?)?;
+    }
+    Ok(Text::new(alloc, clauses)?)
+}
+
+/// Two facts have the same second argument, and the third another one.
+#[test]
+fn a_fact_after_two_that_are_alike_is_passed_over(rt: HostRuntime) -> Result<(), Fail> {
+    let alloc = rt.alloc();
+    let mut region = region_of(alloc, alike_text(alloc)?)?;
+    region.fresh(1)?;
+    call_free(&rt, alloc, &mut region, 1)?;
+    expect_bound(&rt, &region, 0, 1);
+    expect_back_at_nothing(&rt, &mut region)?;
+    expect_bound(&rt, &region, 1, 0);
+    Ok(())
+}
+
 /// Calls `f` with an integer for which there is no fact.
 fn call_in_vain(rt: &impl Abort, alloc: Global, region: &mut Region, key: i64) -> Result<(), Fail> {
     expect(rt, call_fact(rt, alloc, region, key, 1)?, None);
