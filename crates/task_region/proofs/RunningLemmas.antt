@@ -1,6 +1,5 @@
 -- A task that runs on.
-use Rattle.std.proofs.Common.{◌≡◌, ℕ, ◌+◌, ◌<◌, ◌≤◌, Bool, true, false, nat_lt, List, length, Option, Some, None, IsSome, IfSome, refl, sym, ◌∙◌, subst, arith}
-use Rattle.std.proofs.lemmas.Bool.Decides.{nat_tests}
+use Rattle.std.proofs.Common.{◌≡◌, ℕ, ◌+◌, ◌<◌, ◌≤◌, Bool, true, false, List, length, Option, Some, None, IsSome, IfSome, refl, sym, ◌∙◌, subst, arith}
 use Rattle.au_model.specs.Terms.Each.{Each}
 use Rattle.au_model.specs.Terms.Named.{NamedTerm}
 use Rattle.region_split.specs.ClauseTrials.{IsOptionalPosition}
@@ -57,9 +56,6 @@ running_begun t way = record {
   same = record { text = refl; start = refl; floor = refl; variables = refl; deferred = refl };
 }
 
-pub below_limit : (taken limit : ℕ) → nat_lt taken limit ≡ true → taken + 1 ≤ limit
-below_limit taken limit below = grind (arith, nat_tests, below)
-
 module _ (old here : TaskView) (taken : ℕ) (w : IsRunning old here taken) (way : IsUnderWay old) where
   pub one_more : (new : TaskView) (more : Bool) (next : Option Position) → PassesRound here new more (GoesOn next) → IsRunning old (record new { next = next }) (taken + 1)
   one_more new more next p =
@@ -75,9 +71,9 @@ module _ (old here : TaskView) (taken : ℕ) (w : IsRunning old here taken) (way
         same = same_twice old here (record new { next = next }) w.same (record { text = p.same.text; start = p.same.start; floor = p.same.floor; variables = p.same.variables; deferred = p.same.deferred });
       }
 
-  pub stops_here : (new : TaskView) (more : Bool) (stop : TaskStop) (next : Option Position) (limit : ℕ) → PassesRound here new more (Stops stop next) → taken ≤ limit → more ≡ nat_lt taken limit
+  pub stops_here : (new : TaskView) (more : Bool) (stop : TaskStop) (next : Option Position) (limit : ℕ) → PassesRound here new more (Stops stop next) → taken ≤ limit → (more ≡ false → taken ≡ limit) → (more ≡ true → taken < limit)
       → RunsOn old (record new { next = next }) limit (record { taken = taken; stop = stop })
-  stops_here new more stop next limit p le e = record {
+  stops_here new more stop next limit p le full below = record {
     run = λ r k named s. p.stands r (k + taken) named (w.stands r k named s);
     within = le;
     all = λ u. full (p.there.1 u);
@@ -85,12 +81,6 @@ module _ (old here : TaskView) (taken : ℕ) (w : IsRunning old here taken) (way
     there = p.there.0;
     same = same_twice old here (record new { next = next }) w.same (record { text = p.same.text; start = p.same.start; floor = p.same.floor; variables = p.same.variables; deferred = p.same.deferred });
   }
-    where
-      full : more ≡ false → taken ≡ limit
-      full none = let below : nat_lt taken limit ≡ false = sym e ∙ none in grind (arith, nat_tests, below, le)
-
-      below : more ≡ true → taken < limit
-      below one = let h = below_limit taken limit (sym e ∙ one) in omega (arith, h)
 
 -- a task that goes on at a position is under way
 pub under_way : (t : TaskView) (start : Position) → t.next ≡ Some start → IsTask t → IsUnderWay (record t { next = Some start })

@@ -15,7 +15,7 @@ use crate::start::TaskStart;
 use au_term::NoMemory;
 use goal_kinds::GoalKinds;
 use region_control::{AfterGoal, GoalPlace};
-use region_run::{Taken, infer, take_compound};
+use region_run::infer;
 use region_split::{FrameItem, Position, Region};
 use std::alloc::Global;
 
@@ -28,35 +28,9 @@ pub(crate) enum TaskRound {
     Stops(TaskStop, Option<Position>),
 }
 
-/// Takes one inference, if one more may be taken, or tells why the run stops. A compound that stands first, as most goals do, is
-/// taken at once.
-#[inline(always)]
-pub(crate) fn pass_round(
-    region: &mut Region,
-    alloc: Global,
-    kinds: &GoalKinds,
-    task: &TaskStart,
-    start: Option<Position>,
-    more: bool,
-) -> Result<TaskRound, NoMemory>
-    requires way { IsUnderWay (view_of_task region.old task.now start) }
-    requires kinds { kinds.now ≡ region.old.text.code.names }
-    ensures { IfOk result (PassesRound (view_of_task region.old task.now start) (view_of_task region.new task.now None) more) }
-{
-    if !more {
-        return pass_any_round(region, alloc, kinds, task, start, more);
-    }
-    let taken = take_compound(region, alloc, kinds, start)?;
-    match taken {
-        Taken::Called(next) => Ok(TaskRound::GoesOn(next)),
-        Taken::Goal(item, place, after) => after_goal(region, item, place, after),
-        Taken::Nothing(next) => pass_any_round(region, alloc, kinds, task, next, more),
-    }
-}
-
-/// The same, whatever lies ahead.
+/// Takes one inference, if one more may be taken, or tells why the run stops.
 #[inline(never)]
-fn pass_any_round(
+pub(crate) fn pass_round(
     region: &mut Region,
     alloc: Global,
     kinds: &GoalKinds,
@@ -105,7 +79,7 @@ fn take_goal(
 
 /// What a round comes to in which a goal was taken: where the world is asked, the goal is left where it stood.
 #[inline(always)]
-fn after_goal(
+pub(crate) fn after_goal(
     region: &mut Region,
     item: FrameItem,
     place: GoalPlace,

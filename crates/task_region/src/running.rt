@@ -4,11 +4,12 @@ ghost use Rattle.task_region.specs.TaskStandings.{IsUnderWay};
 ghost use Rattle.task_region.specs.TaskViews.{view_of_task};
 ghost use Rattle.task_region.specs.TaskRounds.{RunsOn};
 
-use crate::rounds::{TaskRound, pass_round};
+use crate::rounds::{TaskRound, after_goal, pass_round};
 use crate::start::TaskStart;
 use au_term::{FlatTerm, NoMemory};
 use goal_kinds::GoalKinds;
 use region_control::GoalPlace;
+use region_run::{Taken, take_compound};
 use region_split::{FrameItem, Position, Region};
 use std::alloc::Global;
 
@@ -54,16 +55,33 @@ pub(crate) fn run_on(
     ensures { IfOk result (λ ran. RunsOn (view_of_task region.old task.now (Some start)) (view_of_task region.new task.now ran.1) limit ran.0) }
 {
     let mut next = Some(start);
-    let mut taken = 0;
-    loop {
-        let more = taken < limit;
-        let round = pass_round(region, alloc, kinds, task, next, more)?;
-        match round {
-            TaskRound::GoesOn(position) => {
-                next = position;
-                taken += 1;
+    let mut count = 0;
+    while count < limit {
+        // Most rounds end here, and no more is made of them than where they go on.
+        next = match take_compound(region, alloc, kinds, next)? {
+            Taken::Called(position) => position,
+            Taken::Goal(item, place, after) => match after_goal(region, item, place, after)? {
+                TaskRound::GoesOn(position) => position,
+                TaskRound::Stops(stop, position) => return Ok((ran(count, stop), position)),
+            },
+            Taken::Nothing(position) => {
+                match pass_round(region, alloc, kinds, task, position, true)? {
+                    TaskRound::GoesOn(position) => position,
+                    TaskRound::Stops(stop, position) => return Ok((ran(count, stop), position)),
+                }
             }
-            TaskRound::Stops(stop, position) => return Ok((TaskRan { taken, stop }, position)),
-        }
+        };
+        count += 1;
     }
+    match pass_round(region, alloc, kinds, task, next, false)? {
+        TaskRound::GoesOn(_) => unreachable!(),
+        TaskRound::Stops(stop, position) => Ok((ran(count, stop), position)),
+    }
+}
+
+/// How far a task came that stops after so many inferences.
+fn ran(taken: u64, stop: TaskStop) -> TaskRan
+    ensures { result ≡ record { taken = taken; stop = stop } }
+{
+    TaskRan { taken, stop }
 }

@@ -1,23 +1,84 @@
-use Rattle.std.proofs.Common.{None, Some, nat_lt, refl, subst}
+use Rattle.std.proofs.Common.{◌≡◌, ◌+◌, None, Some, false, true, sym, subst, arith}
+use Rattle.region_run.specs.Runs.{TakesCompound}
 use Rattle.task_region.specs.TaskViews.{view_of_task}
-use Rattle.task_region.specs.TaskRounds.{PassesRound}
-use Rattle.task_region.proofs.RunningLemmas.{one_more, stops_here, below_limit}
+use Rattle.task_region.specs.TaskRounds.{PassesRound, RunsOn}
+use Rattle.task_region.proofs.CompoundRoundLemmas.{asked_there, call_round, compound_round, here, round_from, takes_own}
+use Rattle.task_region.proofs.RunningLemmas.{IsRunning, one_more, stops_here}
 use Rattle.task_region.proofs.running.run_on.Goals as goal
+use Rattle.task_region.proofs.running.run_on.Goals.{in-Called, in-Goal+in_ok-position-in-Goal+in-GoesOn, in-Nothing+in_ok-position-in-Nothing+in-GoesOn-2}
 
-pub loop-round-preserved : goal.loop-round-preserved
-loop-round-preserved c =
-    let old = view_of_task c.args.region.now c.args.task.now (Some c.args.start) in
-    let here = view_of_task c.loop-round.region c.args.task.now c.loop-round.next in
-    let new = view_of_task c.pass_round.new.region c.args.task.now None in
-    let more = nat_lt c.loop-round.taken c.args.limit in
-    let passes = subst (PassesRound here new more) c.in-GoesOn.is c.in_ok-round.ensures in
-    (one_more old here c.loop-round.taken c.loop-round.invariant.0 c.requires.way new more c.in-GoesOn.position passes, below_limit c.loop-round.taken c.args.limit passes.there.1)
+pub after_goal-requires : goal.after_goal-requires
+after_goal-requires c =
+    let t = view_of_task c.loop-count.region c.args.task.now c.loop-count.next in
+    let way = c.loop-count.invariant.0.way in
+    let new = c.take_compound.new.region in
+    let g = c.in-Goal in
+    let takes = subst (TakesCompound t.region new t.next) g.is c.in_ok-position.ensures in
+    asked_there (here t way new g.item g.place g.after takes) new g.item g.place g.after (takes_own t way new g.item g.place g.after takes)
 
 pub returns-in-Stops : goal.returns-in-Stops
 returns-in-Stops c =
     let old = view_of_task c.args.region.now c.args.task.now (Some c.args.start) in
-    let here = view_of_task c.loop-round.region c.args.task.now c.loop-round.next in
-    let new = view_of_task c.pass_round.new.region c.args.task.now None in
-    let more = nat_lt c.loop-round.taken c.args.limit in
-    let passes = subst (PassesRound here new more) c.in-Stops.is c.in_ok-round.ensures in
-    stops_here old here c.loop-round.taken c.loop-round.invariant.0 c.requires.way new more c.in-Stops.stop c.in-Stops.position c.args.limit passes c.loop-round.invariant.1 refl
+    let t = view_of_task c.loop-count.region c.args.task.now c.loop-count.next in
+    let way = c.loop-count.invariant.0.way in
+    let new = c.take_compound.new.region in
+    let last = c.after_goal.new.region in
+    let g = c.in-Goal in
+    let takes = subst (TakesCompound t.region new t.next) g.is c.in_ok-position.ensures in
+    let next = c.in_ok-position-in-Goal.ensures (here t way new g.item g.place g.after takes) (takes_own t way new g.item g.place g.after takes) in
+    let passes = subst (PassesRound t (view_of_task last c.args.task.now None) true) c.in-Stops.is (compound_round t way new g.item g.place g.after takes last c.in_ok-position-in-Goal.field-0 next) in
+    subst (λ ran. RunsOn old (view_of_task last c.args.task.now c.in-Stops.position) c.args.limit ran) (sym c.ran.ensures)
+    (stops_here old t c.loop-count.count c.loop-count.invariant.0 c.requires.way (view_of_task last c.args.task.now None) true c.in-Stops.stop c.in-Stops.position c.args.limit passes c.loop-count.invariant.1 (λ e. absurd cc) (λ e. c.loop-count-test.true))
+
+pub returns-in-Stops-2 : goal.returns-in-Stops-2
+returns-in-Stops-2 c =
+    let old = view_of_task c.args.region.now c.args.task.now (Some c.args.start) in
+    let t = view_of_task c.loop-count.region c.args.task.now c.loop-count.next in
+    let new = c.take_compound.new.region in
+    let last = c.pass_round.new.region in
+    let takes = subst (TakesCompound t.region new t.next) c.in-Nothing.is c.in_ok-position.ensures in
+    let passes = subst (PassesRound t (view_of_task last c.args.task.now None) true) c.in-Stops-2.is (round_from t new c.in-Nothing.position takes last true c.in_ok-position-in-Nothing.field-0 c.in_ok-position-in-Nothing.ensures) in
+    subst (λ ran. RunsOn old (view_of_task last c.args.task.now c.in-Stops-2.position) c.args.limit ran) (sym c.ran-in-Stops-2.ensures)
+    (stops_here old t c.loop-count.count c.loop-count.invariant.0 c.requires.way (view_of_task last c.args.task.now None) true c.in-Stops-2.stop c.in-Stops-2.position c.args.limit passes c.loop-count.invariant.1 (λ e. absurd cc) (λ e. c.loop-count-test.true))
+
+pub loop-count-preserved : goal.loop-count-preserved
+loop-count-preserved c =
+    let task = c.args.task.now in
+    let old = view_of_task c.args.region.now task (Some c.args.start) in
+    let t = view_of_task c.loop-count.region task c.loop-count.next in
+    let running = c.loop-count.invariant.0 in
+    let n = c.loop-count.count in
+    let new = c.take_compound.new.region in
+    let m = c.match-branch-2 in
+    let further : IsRunning old (view_of_task m.region task m.next) (n + 1) = elim m.branch [
+      | in-Called w ↦
+          let takes = subst (TakesCompound t.region new t.next) w.in-Called.is c.in_ok-position.ensures in
+          subst (λ r. IsRunning old (view_of_task r task m.next) (n + 1)) (sym w.region-is)
+          (subst (λ p. IsRunning old (view_of_task new task p) (n + 1)) (sym w.next-is)
+          (one_more old t n running c.requires.way (view_of_task new task None) true w.in-Called.position (call_round t running.way new w.in-Called.position takes)))
+      | in-Goal+in_ok-position-in-Goal+in-GoesOn w ↦
+          let g = w.in-Goal in
+          let last = w.after_goal.new.region in
+          let takes = subst (TakesCompound t.region new t.next) g.is c.in_ok-position.ensures in
+          let next = w.in_ok-position-in-Goal.ensures (here t running.way new g.item g.place g.after takes) (takes_own t running.way new g.item g.place g.after takes) in
+          let passes = subst (PassesRound t (view_of_task last task None) true) w.in-GoesOn.is (compound_round t running.way new g.item g.place g.after takes last w.in_ok-position-in-Goal.field-0 next) in
+          subst (λ r. IsRunning old (view_of_task r task m.next) (n + 1)) (sym w.region-is)
+          (subst (λ p. IsRunning old (view_of_task last task p) (n + 1)) (sym w.next-is) (one_more old t n running c.requires.way (view_of_task last task None) true w.in-GoesOn.position passes))
+      | in-Nothing+in_ok-position-in-Nothing+in-GoesOn-2 w ↦
+          let last = w.pass_round.new.region in
+          let takes = subst (TakesCompound t.region new t.next) w.in-Nothing.is c.in_ok-position.ensures in
+          let passes = subst (PassesRound t (view_of_task last task None) true) w.in-GoesOn-2.is (round_from t new w.in-Nothing.position takes last true w.in_ok-position-in-Nothing.field-0 w.in_ok-position-in-Nothing.ensures) in
+          subst (λ r. IsRunning old (view_of_task r task m.next) (n + 1)) (sym w.region-is)
+          (subst (λ p. IsRunning old (view_of_task last task p) (n + 1)) (sym w.next-is) (one_more old t n running c.requires.way (view_of_task last task None) true w.in-GoesOn-2.position passes))
+    ] in
+    (further, let lt = c.loop-count-test.true in omega (arith, lt))
+
+pub returns : goal.returns
+returns c =
+    let old = view_of_task c.args.region.now c.args.task.now (Some c.args.start) in
+    let t = view_of_task c.loop-count.region c.args.task.now c.loop-count.next in
+    let last = c.pass_round-2.new.region in
+    let all : c.loop-count.count ≡ c.args.limit = let le = c.loop-count.invariant.1 in let ge = c.loop-count-test.false in omega (arith, le, ge) in
+    let passes = subst (PassesRound t (view_of_task last c.args.task.now None) false) c.in-Stops-3.is c.in_ok-pass_round.ensures in
+    subst (λ ran. RunsOn old (view_of_task last c.args.task.now c.in-Stops-3.position) c.args.limit ran) (sym c.ran-in-Stops-3.ensures)
+    (stops_here old t c.loop-count.count c.loop-count.invariant.0 c.requires.way (view_of_task last c.args.task.now None) false c.in-Stops-3.stop c.in-Stops-3.position c.args.limit passes c.loop-count.invariant.1 (λ e. all) (λ e. absurd cc))
