@@ -1,13 +1,23 @@
 -- Clauses that are added to a text stay where they are.
-use Rattle.std.proofs.Common.{◌≡◌, ℕ, zero, suc, List, [], ◌∷◌, ◌++◌, append_assoc, length, drop, get_or, slice_get, Some, refl, sym, ap, ◌∙◌, subst, arith}
+use Rattle.std.proofs.Common.{◌≡◌, ℕ, zero, suc, ◌≤◌, true, List, [], ◌∷◌, ◌++◌, append_assoc, append-nil, length, map, drop, get_or, slice_get, Option, Some, None, refl, sym, ap, ap₂, ◌∙◌, subst, arith}
+use Rattle.std.proofs.Math.Seq.{drop-append_seam}
+use Rattle.au_term.specs.Term.{Term}
+use Rattle.au_model.specs.Terms.Each.{Each}
+use Rattle.au_model.specs.Terms.Forms.{is_callable}
 use Rattle.au_model.proofs.EachLemmas.{each-more}
-use Rattle.run_model.specs.Programs.Clauses.{Clause}
+use Rattle.run_model.specs.Programs.Clauses.{Clause, clause_variables}
 use Rattle.cell_store.proofs.UndoingLemmas.{map-same}
+use Rattle.clause_compile.specs.ClauseInvariant.{numbers_from}
+use Rattle.clause_compile.specs.CompiledClauses.{clause_bound}
+use Rattle.clause_compile.specs.PlacedClauses.{IsClausePlaced}
+use Rattle.clause_compile.specs.declared.code.ClausePlaces.{ClausePlaces}
 use Rattle.clause_compile.specs.Places.{CodeView, Keeps, IsPlaceOf, meaning_in}
 use Rattle.clause_compile.specs.declared.place.Place.{Place}
-use Rattle.region_split.specs.Texts.{body_items, IsPlacedClause, ArePlacedClauses, AddsClause}
+use Rattle.region_split.specs.Texts.{body_items, IsKeyedArgument, IsPlacedClause, ArePlacedClauses, AddsClause}
 use Rattle.region_split.specs.declared.text.BodyItem.{BodyItem}
+use Rattle.region_split.specs.declared.text.KeyedArgument.{KeyedArgument}
 use Rattle.region_split.specs.declared.text.PlacedClause.{PlacedClause}
+use Rattle.region_split.proofs.HeadLemmas.{among, same_named_key}
 
 -- a body that is there goes on where more is added
 followed : (bodies more rest : List BodyItem) (goals : List Place) (at : ℕ) → drop at bodies ≡ body_items goals ++ rest → drop at (bodies ++ more) ≡ body_items goals ++ (rest ++ more)
@@ -15,6 +25,11 @@ followed bodies more rest goals zero e = ap (λ xs. xs ++ more) e ∙ append_ass
 followed [] more rest [] (suc at) e = absurd cc
 followed [] more rest (g ∷ goals) (suc at) e = absurd cc
 followed (b ∷ bodies) more rest goals (suc at) e = followed bodies more rest goals at e
+
+-- a keyed argument stays one where further names come
+still_keyed : (names more : List (List ℕ)) (t : Term) (o : Option KeyedArgument) → IsKeyedArgument names t o → IsKeyedArgument (names ++ more) t o
+still_keyed names more t None k = tt
+still_keyed names more t (Some a) k = (among names more (Some a.key) k.0, same_named_key names more (Some a.key) k.0 ∙ k.1)
 
 still_placed : (old new : CodeView) (bodies more : List BodyItem) (c : Clause) (p : PlacedClause) → Keeps old new → IsPlacedClause old bodies c p → IsPlacedClause new (bodies ++ more) c p
 still_placed old new bodies more c p k q = record {
@@ -28,6 +43,7 @@ still_placed old new bodies more c p k q = record {
   mean = map-same (IsPlaceOf old) (meaning_in new) (meaning_in old) (λ g there. (k.same g there).1) q.goals q.goals_there ∙ q.mean;
   numbered = q.numbered;
   below = q.below;
+  keyed = subst (λ names. IsKeyedArgument names c.head p.keyed) (sym k.names_are) (still_keyed old.names k.names c.head p.keyed q.keyed);
 }
 
 pub all_still_placed : (old new : CodeView) (bodies more : List BodyItem) (cs : List Clause) (ps : List PlacedClause) → Keeps old new → ArePlacedClauses old bodies cs ps → ArePlacedClauses new (bodies ++ more) cs ps
@@ -61,3 +77,27 @@ placed_at code bodies (d ∷ cs) (x ∷ ps) zero c p q e is = subst (λ y. IsPla
     some_same : (y z : Clause) → Some y ≡ Some z → y ≡ z
     some_same y z h = cc
 placed_at code bodies (d ∷ cs) (x ∷ ps) (suc n) c p q e is = placed_at code bodies cs ps n c p q.1 e is
+
+-- a clause whose head and goals were placed, and its body behind others
+pub clause_added : (old new : CodeView) (before after : List BodyItem) (c : Clause) (places : ClausePlaces) (goals : List Place) (p : PlacedClause) → IsClausePlaced old new c places → is_callable c.head ≡ true → goals ≡ places.goals.items → after ≡ before ++ body_items goals
+    → p.head ≡ places.head → p.body ≡ length before → p.vars ≡ places.vars → IsKeyedArgument new.names (meaning_in new places.head) p.keyed → AddsClause old new before after c p
+clause_added old new before after c places goals p k callable is bodies head body vars keyed =
+    let e : goals ≡ places.goals.items = is in
+    record {
+      keeps = k.keeps;
+      more = body_items goals;
+      bodies = bodies;
+      placed = record {
+        head_there = subst (IsPlaceOf new) (sym head) k.head_there;
+        head = ap (meaning_in new) head ∙ k.head;
+        callable = callable;
+        goals = goals;
+        following = [];
+        body = ap₂ drop body bodies ∙ (drop-append_seam before (body_items goals) ∙ sym (append-nil (body_items goals)));
+        goals_there = subst (Each (IsPlaceOf new)) (sym e) k.goals_there;
+        mean = ap (map (meaning_in new)) e ∙ k.goals;
+        numbered = subst (λ n. clause_variables c ≡ numbers_from 0 n) (sym vars) k.numbered;
+        below = subst (λ n. clause_bound c ≤ n) (sym vars) k.below;
+        keyed = subst (λ t. IsKeyedArgument new.names t p.keyed) k.head keyed;
+      };
+    }

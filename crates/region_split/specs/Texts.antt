@@ -1,5 +1,5 @@
 -- A program's text.
-use Rattle.std.specs.Prelude.{◌≡◌, ◌≤◌, ℕ, true, List, [], ◌∷◌, ◌++◌, map, drop, Option, MatchOption}
+use Rattle.std.specs.Prelude.{◌≡◌, ◌≤◌, ℕ, true, List, [], ◌∷◌, ◌++◌, map, drop, Option, Some, None, MatchOption}
 use Rattle.au_term.specs.Term.{Term, argument}
 use Rattle.au_model.specs.Terms.Forms.{is_callable}
 use Rattle.au_model.specs.Terms.Each.{Each}
@@ -11,10 +11,11 @@ use Rattle.clause_compile.specs.Places.{CodeView, Keeps, IsPlaceOf, meaning_in}
 use Rattle.clause_compile.specs.declared.place.Place.{Place}
 use Rattle.proc_index.specs.Keys.{key_of}
 use Rattle.proc_index.specs.declared.key.Key.TheVariants.{Any}
-use Rattle.clause_index.specs.HeadKeys.{IsHeadKeyOf}
+use Rattle.clause_index.specs.HeadKeys.{IsHeadKeyOf, IsKeyAmong, named_key}
 use Rattle.clause_index.specs.declared.key.HeadKey.{HeadKey}
 use Rattle.region_split.specs.declared.text.BodyItem.{BodyItem}
 use Rattle.region_split.specs.declared.text.BodyItem.TheVariants.{Goal, BodyEnd}
+use Rattle.region_split.specs.declared.text.KeyedArgument.{KeyedArgument}
 use Rattle.region_split.specs.declared.text.PlacedClause.{PlacedClause}
 
 -- its places, its bodies one after another, its clauses, and the numbers of their heads
@@ -32,8 +33,13 @@ body_items goals = map Goal goals ++ BodyEnd ∷ []
 abbrev pub IsArgumentPlace : CodeView → Term → ℕ → Option Place → Type 0
 IsArgumentPlace code t i found = MatchOption found (key_of (argument i t) ≡ Any) (λ p. IsPlaceOf code p × (meaning_in code p ≡ argument i t))
 
+-- an argument of a term has this key, if any is said to have one
+abbrev pub IsKeyedArgument : List (List ℕ) → Term → Option KeyedArgument → Type 0
+IsKeyedArgument names t None = Unit {0}
+IsKeyedArgument names t (Some k) = IsKeyAmong names (Some k.key) × (named_key names (Some k.key) ≡ key_of (argument k.number t))
+
 -- where a clause is: a place means its head, places of the goals of its body stand one after another, and its variables are
--- numbered from 0
+-- numbered from 0; and its keyed argument has that key
 pub record IsPlacedClause (code : CodeView) (bodies : List BodyItem) (c : Clause) (p : PlacedClause) : Type 0 where
   pub head_there : IsPlaceOf code p.head
   pub head : meaning_in code p.head ≡ c.head
@@ -45,6 +51,7 @@ pub record IsPlacedClause (code : CodeView) (bodies : List BodyItem) (c : Clause
   pub mean : map (meaning_in code) goals ≡ clause_goals_of c.body
   pub numbered : clause_variables c ≡ numbers_from 0 p.vars
   pub below : clause_bound c ≤ p.vars
+  pub keyed : IsKeyedArgument code.names c.head p.keyed
 
 -- each clause is where it is said to be
 abbrev pub ArePlacedClauses : CodeView → List BodyItem → List Clause → List PlacedClause → Type 0

@@ -107,7 +107,7 @@ fn are_apart(text: &Text, store: &Store, goal: BindingCell, clause: u32) -> bool
     // The proof reads off that no two names are the same.
     let _next = store.next();
     let placed = text.placed(clause);
-    if placed.keyed_from >= placed.keyed_to && placed.inner.is_none() {
+    if placed.keyed.is_none() && placed.inner.is_none() {
         return false;
     }
     let BindingCell::Compound(at, base) = store.dereference(goal) else {
@@ -119,6 +119,14 @@ fn are_apart(text: &Text, store: &Store, goal: BindingCell, clause: u32) -> bool
             let own = store.argument(at + 1 + inner.of, base);
             let own = inner_key_of_value(store, own, inner.number);
             if own.is_some() && tell_apart(own, text.inner_key(clause, inner)) {
+                return true;
+            }
+        }
+    }
+    if let Some(keyed) = placed.keyed {
+        if keyed.number < count {
+            let own = key_of_value(store, store.argument(at + 1 + keyed.number, base));
+            if tell_apart(own, Some(keyed.key)) {
                 return true;
             }
         }

@@ -10,7 +10,7 @@ ghost use Rattle.std.specs.List.{list_any};
 ghost use Rattle.clause_index.specs.Classes.{can_match, is_head_of};
 ghost use Rattle.clause_index.specs.Cursors.{IsCursorOf, numbers_left, TakesLeast};
 ghost use Rattle.clause_index.specs.Numbers.{numbers, only_of};
-ghost use Rattle.region_split.specs.Texts.{body_items, IsArgumentPlace, IsPlacedClause, ArePlacedClauses, AreHeadKeys, AddsClause};
+ghost use Rattle.region_split.specs.Texts.{body_items, IsArgumentPlace, IsKeyedArgument, IsPlacedClause, ArePlacedClauses, AreHeadKeys, AddsClause};
 
 use au_term::NoMemory;
 use clause_compile::{Clause, Code, Place};
@@ -33,15 +33,23 @@ pub struct InnerArgument {
     pub number: u32,
 }
 
-/// Where a clause is: the place of its head, and where its body begins among the bodies; and how many variables it has. Only
-/// arguments of the head from `keyed_from` on and before `keyed_to` are looked at to tell a goal apart, counted from 0, of the
-/// second to the fourth the others have no key; and the first constant that stands inside of one of the first four. Where it
-/// is alike, the clause before it is of its procedure and has the same keys there.
+/// An argument of a head that has a key, counted from 0.
+#[derive(Clone, Copy, Debug, PartialEq, Eq)]
+pub struct KeyedArgument {
+    pub number: u32,
+    pub key: NumberKey,
+}
+
+/// Where a clause is: the place of its head, and where its body begins among the bodies; and how many variables it has. What
+/// is looked at to tell a goal apart: the first of the head's second to fourth arguments that has a key; those of them from
+/// `keyed_from` on and before `keyed_to`, counted from 0, which has all others that have one; and the first constant that
+/// stands inside of one of the first four. Where it is alike, the clause before it is of its procedure and has the same there.
 #[derive(Clone, Copy, Debug, PartialEq, Eq)]
 pub struct PlacedClause {
     pub head: Place,
     pub body: u32,
     pub vars: u32,
+    pub keyed: Option<KeyedArgument>,
     pub keyed_from: u32,
     pub keyed_to: u32,
     pub inner: Option<InnerArgument>,
@@ -239,13 +247,15 @@ fn place_clause(
         return Err(NoMemory);
     }
     push_body(&places.goals, bodies)?;
-    let (keyed_from, keyed_to) = keyed_arguments(code, places.head);
+    let keyed = first_keyed_argument(code, places.head);
+    let (keyed_from, keyed_to) = arguments_after(code, places.head, keyed);
     let inner = first_inner_constant(code, places.head);
     let is_alike = is_like_last(code, places.head, inner, last);
     Ok(PlacedClause {
         head: places.head,
         body: body as u32,
         vars: places.vars as u32,
+        keyed,
         keyed_from,
         keyed_to,
         inner,
@@ -285,14 +295,30 @@ fn later_keys(code: &Code, head: Place, inner: Option<InnerArgument>) -> LaterKe
     }
 }
 
-/// The first of a head's second to fourth arguments that has a key, counted from 0, and the one after the last that has.
-fn keyed_arguments(code: &Code, head: Place) -> (u32, u32)
+/// The first of a head's second to fourth arguments that has a key, if one has.
+fn first_keyed_argument(code: &Code, head: Place) -> Option<KeyedArgument>
+    requires { IsPlaceOf code.now head }
+    ensures { IsKeyedArgument code.now.names (meaning_in code.now head) result }
+{
+    for number in 1..4 {
+        if let Some(key) = argument_key(code, head, number) {
+            return Some(KeyedArgument { number, key });
+        }
+    }
+    None
+}
+
+/// The first of a head's arguments after that one which has a key, counted from 0, and the one after the last that has.
+fn arguments_after(code: &Code, head: Place, keyed: Option<KeyedArgument>) -> (u32, u32)
     requires { IsPlaceOf code.now head }
 {
+    let Some(first) = keyed else {
+        return (0, 0);
+    };
     let mut from = 4;
     let mut to = 0;
-    for i in 1..4 {
-        if argument_key(code, head, i).is_some() {
+    for i in 2..4 {
+        if i > first.number && argument_key(code, head, i).is_some() {
             from = from.min(i);
             to = i + 1;
         }
