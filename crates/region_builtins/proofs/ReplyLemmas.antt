@@ -1,13 +1,17 @@
 -- What goes on after a goal that holds once or fails.
-use Rattle.std.proofs.Common.{◌≡◌, ℕ, ◌+◌, Bool, true, false, List, [], ◌∷◌, ◌++◌, length, map, Some, None, refl, sym, ap, ap₂, ◌∙◌, subst, arith}
+use Rattle.std.proofs.Common.{◌≡◌, ℕ, ℤ, ◌+◌, Bool, true, false, List, [], ◌∷◌, ◌++◌, length, map, Some, None, refl, sym, ap, ap₂, ◌∙◌, subst, arith}
+use Rattle.au_term.specs.Term.{VarTerm, IntTerm}
 use Rattle.au_model.specs.Terms.Named.{NamedTerm}
 use Rattle.au_model.specs.Terms.Substitutions.{Substitution}
-use Rattle.au_model.specs.Terms.Unifier.{Equations, unifier}
+use Rattle.au_model.specs.Terms.Unifier.{Equations, bound, unifier}
+use Rattle.au_model.proofs.UnifierLemmas.{unifier-first}
+use Rattle.std.specs.Option.{option_map}
 use Rattle.run_model.specs.Goals.BuiltinAnswers.{Answer, equal, holds_if, one_solution}
 use Rattle.run_model.specs.Machine.Items.{Continuation, with_next, resolve_continuation}
 use Rattle.run_model.specs.Machine.Entries.{PlainEntry, unified}
 use Rattle.binding_array.specs.declared.cell.BindingCell.{BindingCell}
-use Rattle.cell_store.specs.StoreView.{StoreView, IsComposition, substitution, meaning, with_substitution}
+use Rattle.binding_array.specs.declared.cell.BindingCell.TheVariants.{Var}
+use Rattle.cell_store.specs.StoreView.{StoreView, BindsFurther, IsComposition, IsDereferenced, substitution, meaning, with_substitution}
 use Rattle.cell_store.specs.UnificationSteps.{AreUnified, OnlyBinds}
 use Rattle.cell_store.specs.declared.arguments.Arguments.{Arguments}
 use Rattle.std_builtins.specs.Meanings.{answer_of}
@@ -91,6 +95,16 @@ module _ (r : RegionView) (place : GoalPlace) (at : IsGoalPlace r place) where
 
     pub unified_goes_on : AreUnified a b r.store new.store → OnlyBinds r.store new.store → AnswersIn r new (equal (meaning r.store a) (meaning r.store b)) place (At place.after)
     unified_goes_on u kept = all_unified new stays ((meaning r.store a, meaning r.store b) ∷ []) u.further u.unified u.binds.bound kept
+
+-- a free variable and an integer
+number_unified : (v : ℕ) (z : ℤ) → unifier ((VarTerm v, IntTerm z) ∷ []) ≡ Some ((v, IntTerm z) ∷ [])
+number_unified v z = unifier-first (VarTerm v) (IntTerm z) [] ∙ ap (option_map (bound v (IntTerm z))) nothing_unified
+
+pub number_bound : (r : RegionView) (place : GoalPlace) (at : IsGoalPlace r place) (new : RegionView) (left : BindingCell) (v : ℕ) (z : ℤ) → IsDereferenced r.store left (Var v) → StaysStanding r new → BindsFurther r.store new.store ((v, IntTerm z) ∷ [])
+    → AnswersIn r new (equal (meaning r.store left) (IntTerm z)) place (At place.after)
+number_bound r place at new left v z d stays b =
+    let is : meaning r.store left ≡ VarTerm v = sym d.same ∙ d.unbound in
+    all_unified r place at new stays ((meaning r.store left, IntTerm z) ∷ []) ((v, IntTerm z) ∷ []) (ap (λ t. unifier ((t, IntTerm z) ∷ [])) is ∙ number_unified v z) b.bound (record { others = b.others })
 
 -- an answer as the store showed it
 pub quick_seen : (r : RegionView) (st : StoreView) (b : Builtin) (a : Arguments) (q : QuickAnswer) → st ≡ r.store → ((next : ℕ) → IsQuickAnswer st (answer_of b (argument_terms st a) next) q) → IsQuickAnswer r.store (answer_of b (argument_terms r.store a) r.store.now.next) q

@@ -30,6 +30,7 @@ use std::cmp::Ordering;
 use std_builtins::{Builtin, BuiltinRefusal};
 
 /// Makes two values one in the place of a goal.
+#[inline(always)]
 fn equate(
     region: &mut Region,
     left: BindingCell,
@@ -43,6 +44,13 @@ fn equate(
     ensures text { OnOk result (region.new.text ≡ region.old.text) }
     ensures floor { OnOk result (region.new.store.floor ≡ region.old.store.floor) }
 {
+    if let BindingCell::Int(_) = right {
+        // Mostly a variable that is free takes the value of an expression.
+        if let BindingCell::Var(variable) = region.store().dereference(left) {
+            region.bind(variable, right)?;
+            return Ok(AfterGoal::At(place.after));
+        }
+    }
     if region.unify(left, right)? {
         Ok(AfterGoal::At(place.after))
     } else {
