@@ -133,3 +133,7 @@ all_put old now body cut after next (p ∷ pending) e k = absurd (omega (arith, 
 -- the choice points stand for what they stood for
 pub choices_kept : (old now : RegionView) (items : List ℕ → List (Item ℕ)) (cut : ℕ) (after p : Position) → PutsBefore old now items cut after p → KeepsChoices old now
 choices_kept old now items cut after p put = record { stands = put.stands; others = put.others ∙ ap (λ m. record old { store = record old.store { now = m }; frames = now.frames }) (sym (ap (λ (x : RegionView). x.store.now) put.others)) }
+
+-- a body that is one goal
+pub body_put : (r new : RegionView) (body : BindingCell) (cut : ℕ) (after p : Position) → HasNoSides r.store body (codes ",") → PutsBefore r new (item_here r (Goal body) cut) cut after p → PutsBefore r new (goals_by (goals_of (meaning r.store body)) cut) cut after p
+body_put r new body cut after p alone put = subst (λ gs. PutsBefore r new (goals_by gs cut) cut after p) (sym (one_goal (meaning r.store body) alone)) put

@@ -45,8 +45,27 @@ pub fn push_goals(
     }
 }
 
-/// Puts the goals of a body before what follows at a position, the last one first.
+/// Puts the goals of a body before what follows at a position. For one goal, which most bodies are, no list is made.
 fn push_body(
+    region: &mut Region,
+    alloc: Global,
+    body: BindingCell,
+    cut: u32,
+    after: Position,
+) -> Result<Position, NoMemory>
+    requires body { IsValueIn region.old.store body }
+    requires after { IsPositionOver region.old cut after }
+    ensures ok { IfOk result (PutsBefore region.old region.new (goals_by (goals_of (meaning region.old.store body)) cut) cut after) }
+    ensures kept { KeepsChoices region.old region.new }
+{
+    match sides(region.store(), body, ",") {
+        Some(_) => push_conjunction(region, alloc, body, cut, after),
+        None => region.push_item(FrameItem::Goal(body), cut, after),
+    }
+}
+
+/// The same for any body, the last goal first.
+fn push_conjunction(
     region: &mut Region,
     alloc: Global,
     body: BindingCell,
