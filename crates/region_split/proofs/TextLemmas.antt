@@ -13,8 +13,9 @@ use Rattle.clause_compile.specs.PlacedClauses.{IsClausePlaced}
 use Rattle.clause_compile.specs.declared.code.ClausePlaces.{ClausePlaces}
 use Rattle.clause_compile.specs.Places.{CodeView, Keeps, IsPlaceOf, meaning_in}
 use Rattle.clause_compile.specs.declared.place.Place.{Place}
-use Rattle.region_split.specs.Texts.{body_items, IsKeyedArgument, IsPlacedClause, ArePlacedClauses, AddsClause}
+use Rattle.region_split.specs.Texts.{body_items, IsInnerConstant, IsKeyedArgument, IsPlacedClause, ArePlacedClauses, AddsClause}
 use Rattle.region_split.specs.declared.text.BodyItem.{BodyItem}
+use Rattle.region_split.specs.declared.text.InnerConstant.{InnerConstant}
 use Rattle.region_split.specs.declared.text.KeyedArgument.{KeyedArgument}
 use Rattle.region_split.specs.declared.text.PlacedClause.{PlacedClause}
 use Rattle.region_split.proofs.HeadLemmas.{among, same_named_key}
@@ -26,10 +27,14 @@ followed [] more rest [] (suc at) e = absurd cc
 followed [] more rest (g ∷ goals) (suc at) e = absurd cc
 followed (b ∷ bodies) more rest goals (suc at) e = followed bodies more rest goals at e
 
--- a keyed argument stays one where further names come
+-- keys stay those of arguments where further names come
 still_keyed : (names more : List (List ℕ)) (t : Term) (o : Option KeyedArgument) → IsKeyedArgument names t o → IsKeyedArgument (names ++ more) t o
 still_keyed names more t None k = tt
 still_keyed names more t (Some a) k = (among names more (Some a.key) k.0, same_named_key names more (Some a.key) k.0 ∙ k.1)
+
+still_inner : (names more : List (List ℕ)) (t : Term) (o : Option InnerConstant) → IsInnerConstant names t o → IsInnerConstant (names ++ more) t o
+still_inner names more t None k = tt
+still_inner names more t (Some a) k = (among names more (Some a.key) k.0, same_named_key names more (Some a.key) k.0 ∙ k.1)
 
 still_placed : (old new : CodeView) (bodies more : List BodyItem) (c : Clause) (p : PlacedClause) → Keeps old new → IsPlacedClause old bodies c p → IsPlacedClause new (bodies ++ more) c p
 still_placed old new bodies more c p k q = record {
@@ -44,6 +49,7 @@ still_placed old new bodies more c p k q = record {
   numbered = q.numbered;
   below = q.below;
   keyed = subst (λ names. IsKeyedArgument names c.head p.keyed) (sym k.names_are) (still_keyed old.names k.names c.head p.keyed q.keyed);
+  inner = subst (λ names. IsInnerConstant names c.head p.inner) (sym k.names_are) (still_inner old.names k.names c.head p.inner q.inner);
 }
 
 pub all_still_placed : (old new : CodeView) (bodies more : List BodyItem) (cs : List Clause) (ps : List PlacedClause) → Keeps old new → ArePlacedClauses old bodies cs ps → ArePlacedClauses new (bodies ++ more) cs ps
@@ -80,8 +86,8 @@ placed_at code bodies (d ∷ cs) (x ∷ ps) (suc n) c p q e is = placed_at code 
 
 -- a clause whose head and goals were placed, and its body behind others
 pub clause_added : (old new : CodeView) (before after : List BodyItem) (c : Clause) (places : ClausePlaces) (goals : List Place) (p : PlacedClause) → IsClausePlaced old new c places → is_callable c.head ≡ true → goals ≡ places.goals.items → after ≡ before ++ body_items goals
-    → p.head ≡ places.head → p.body ≡ length before → p.vars ≡ places.vars → IsKeyedArgument new.names (meaning_in new places.head) p.keyed → AddsClause old new before after c p
-clause_added old new before after c places goals p k callable is bodies head body vars keyed =
+    → p.head ≡ places.head → p.body ≡ length before → p.vars ≡ places.vars → IsKeyedArgument new.names (meaning_in new places.head) p.keyed → IsInnerConstant new.names (meaning_in new places.head) p.inner → AddsClause old new before after c p
+clause_added old new before after c places goals p k callable is bodies head body vars keyed inner =
     let e : goals ≡ places.goals.items = is in
     record {
       keeps = k.keeps;
@@ -99,5 +105,6 @@ clause_added old new before after c places goals p k callable is bodies head bod
         numbered = subst (λ n. clause_variables c ≡ numbers_from 0 n) (sym vars) k.numbered;
         below = subst (λ n. clause_bound c ≤ n) (sym vars) k.below;
         keyed = subst (λ t. IsKeyedArgument new.names t p.keyed) k.head keyed;
+        inner = subst (λ t. IsInnerConstant new.names t p.inner) k.head inner;
       };
     }

@@ -15,6 +15,7 @@ use Rattle.clause_index.specs.HeadKeys.{IsHeadKeyOf, IsKeyAmong, named_key}
 use Rattle.clause_index.specs.declared.key.HeadKey.{HeadKey}
 use Rattle.region_split.specs.declared.text.BodyItem.{BodyItem}
 use Rattle.region_split.specs.declared.text.BodyItem.TheVariants.{Goal, BodyEnd}
+use Rattle.region_split.specs.declared.text.InnerConstant.{InnerConstant}
 use Rattle.region_split.specs.declared.text.KeyedArgument.{KeyedArgument}
 use Rattle.region_split.specs.declared.text.PlacedClause.{PlacedClause}
 
@@ -38,8 +39,13 @@ abbrev pub IsKeyedArgument : List (List ℕ) → Term → Option KeyedArgument �
 IsKeyedArgument names t None = Unit {0}
 IsKeyedArgument names t (Some k) = IsKeyAmong names (Some k.key) × (named_key names (Some k.key) ≡ key_of (argument k.number t))
 
+-- an argument of an argument of a term has this key, if one is said to
+abbrev pub IsInnerConstant : List (List ℕ) → Term → Option InnerConstant → Type 0
+IsInnerConstant names t None = Unit {0}
+IsInnerConstant names t (Some k) = IsKeyAmong names (Some k.key) × (named_key names (Some k.key) ≡ key_of (argument k.number (argument k.of t)))
+
 -- where a clause is: a place means its head, places of the goals of its body stand one after another, and its variables are
--- numbered from 0; and its keyed argument has that key
+-- numbered from 0; and its keyed argument and the constant inside of an argument have their keys
 pub record IsPlacedClause (code : CodeView) (bodies : List BodyItem) (c : Clause) (p : PlacedClause) : Type 0 where
   pub head_there : IsPlaceOf code p.head
   pub head : meaning_in code p.head ≡ c.head
@@ -52,6 +58,7 @@ pub record IsPlacedClause (code : CodeView) (bodies : List BodyItem) (c : Clause
   pub numbered : clause_variables c ≡ numbers_from 0 p.vars
   pub below : clause_bound c ≤ p.vars
   pub keyed : IsKeyedArgument code.names c.head p.keyed
+  pub inner : IsInnerConstant code.names c.head p.inner
 
 -- each clause is where it is said to be
 abbrev pub ArePlacedClauses : CodeView → List BodyItem → List Clause → List PlacedClause → Type 0

@@ -118,7 +118,7 @@ fn are_apart(text: &Text, store: &Store, goal: BindingCell, clause: u32) -> bool
         if inner.of < count {
             let own = store.argument(at + 1 + inner.of, base);
             let own = inner_key_of_value(store, own, inner.number);
-            if own.is_some() && tell_apart(own, text.inner_key(clause, inner)) {
+            if tell_apart(own, Some(inner.key)) {
                 return true;
             }
         }

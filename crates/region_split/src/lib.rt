@@ -30,4 +30,4 @@ pub use frame::{CompoundFirst, Frame, FrameBody, FrameItem, Left, Position};
 pub use region::Region;
 pub use results::Results;
 pub use solution::{Equation, EquationSide, Solution, Solutions};
-pub use text::{BodyItem, InnerArgument, KeyedArgument, PlacedClause, Text};
+pub use text::{BodyItem, InnerConstant, KeyedArgument, PlacedClause, Text};

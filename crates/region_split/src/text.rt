@@ -10,7 +10,7 @@ ghost use Rattle.std.specs.List.{list_any};
 ghost use Rattle.clause_index.specs.Classes.{can_match, is_head_of};
 ghost use Rattle.clause_index.specs.Cursors.{IsCursorOf, numbers_left, TakesLeast};
 ghost use Rattle.clause_index.specs.Numbers.{numbers, only_of};
-ghost use Rattle.region_split.specs.Texts.{body_items, IsArgumentPlace, IsKeyedArgument, IsPlacedClause, ArePlacedClauses, AreHeadKeys, AddsClause};
+ghost use Rattle.region_split.specs.Texts.{body_items, IsArgumentPlace, IsInnerConstant, IsKeyedArgument, IsPlacedClause, ArePlacedClauses, AreHeadKeys, AddsClause};
 
 use au_term::NoMemory;
 use clause_compile::{Clause, Code, Place};
@@ -26,11 +26,12 @@ pub enum BodyItem {
     BodyEnd,
 }
 
-/// An argument of an argument, both counted from 0.
+/// An argument of an argument of a head that is a constant, both counted from 0, and its key.
 #[derive(Clone, Copy, Debug, PartialEq, Eq)]
-pub struct InnerArgument {
+pub struct InnerConstant {
     pub of: u32,
     pub number: u32,
+    pub key: NumberKey,
 }
 
 /// An argument of a head that has a key, counted from 0.
@@ -52,7 +53,7 @@ pub struct PlacedClause {
     pub keyed: Option<KeyedArgument>,
     pub keyed_from: u32,
     pub keyed_to: u32,
-    pub inner: Option<InnerArgument>,
+    pub inner: Option<InnerConstant>,
     pub is_alike: bool,
 }
 
@@ -63,8 +64,7 @@ struct LaterKeys {
     second: Option<NumberKey>,
     third: Option<NumberKey>,
     fourth: Option<NumberKey>,
-    inner: Option<InnerArgument>,
-    constant: Option<NumberKey>,
+    inner: Option<InnerConstant>,
 }
 
 /// A program's text: its places, its bodies, and its clauses. It knows where each clause is, and finds those that a goal may
@@ -188,16 +188,6 @@ impl Text {
         argument_key(&self.code, self.placed(clause).head, i)
     }
 
-    /// The key of an argument of an argument of a clause's head; none for a variable, and where there is no such argument.
-    #[inline]
-    pub(crate) fn inner_key(&self, clause: u32, inner: InnerArgument) -> Option<NumberKey>
-        requires { clause < length self.now.clauses }
-        ensures there { IsKeyAmong self.now.code.names result }
-        ensures key { (c : ClauseTerms) → slice_get self.now.clauses clause ≡ Some c → named_key self.now.code.names result ≡ key_of (argument inner.number (argument inner.of c.head)) }
-    {
-        inner_key(&self.code, self.placed(clause).head, inner)
-    }
-
     /// The item at a place of the bodies, if it is there.
     #[inline(always)]
     pub fn get(&self, at: u32) -> Option<BodyItem>
@@ -267,7 +257,7 @@ fn place_clause(
 fn is_like_last(
     code: &Code,
     head: Place,
-    inner: Option<InnerArgument>,
+    inner: Option<InnerConstant>,
     last: &mut Option<LaterKeys>,
 ) -> bool
     requires { IsPlaceOf code.now head }
@@ -279,7 +269,7 @@ fn is_like_last(
 }
 
 /// The functor of the head at a place, and what else tells it apart.
-fn later_keys(code: &Code, head: Place, inner: Option<InnerArgument>) -> LaterKeys
+fn later_keys(code: &Code, head: Place, inner: Option<InnerConstant>) -> LaterKeys
     requires { IsPlaceOf code.now head }
 {
     LaterKeys {
@@ -288,10 +278,6 @@ fn later_keys(code: &Code, head: Place, inner: Option<InnerArgument>) -> LaterKe
         third: argument_key(code, head, 2),
         fourth: argument_key(code, head, 3),
         inner,
-        constant: match inner {
-            Some(inner) => inner_key(code, head, inner),
-            None => None,
-        },
     }
 }
 
@@ -327,14 +313,16 @@ fn arguments_after(code: &Code, head: Place, keyed: Option<KeyedArgument>) -> (u
 }
 
 /// The first constant among the arguments of the first four arguments of a head, if there is one.
-fn first_inner_constant(code: &Code, head: Place) -> Option<InnerArgument>
+fn first_inner_constant(code: &Code, head: Place) -> Option<InnerConstant>
     requires { IsPlaceOf code.now head }
+    ensures { IsInnerConstant code.now.names (meaning_in code.now head) result }
 {
     for of in 0..4 {
         for number in 0..arguments_of_argument(code, head, of) {
-            let inner = InnerArgument { of, number };
-            if is_constant(inner_key(code, head, inner)) {
-                return Some(inner);
+            if let Some(key) = inner_key(code, head, of, number) {
+                if is_constant(key) {
+                    return Some(InnerConstant { of, number, key });
+                }
             }
         }
     }
@@ -352,10 +340,10 @@ fn arguments_of_argument(code: &Code, term: Place, of: u32) -> u32
 }
 
 /// Whether a key is that of an integer or an atom.
-fn is_constant(key: Option<NumberKey>) -> bool {
+fn is_constant(key: NumberKey) -> bool {
     match key {
-        Some(NumberKey::Int(_)) | Some(NumberKey::Atom(_)) => true,
-        _ => false,
+        NumberKey::Int(_) | NumberKey::Atom(_) => true,
+        NumberKey::Functor(_, _) => false,
     }
 }
 
@@ -384,14 +372,13 @@ fn argument_key(code: &Code, term: Place, i: u32) -> Option<NumberKey>
 }
 
 /// The key of an argument of an argument of the term at a place.
-#[inline]
-fn inner_key(code: &Code, term: Place, inner: InnerArgument) -> Option<NumberKey>
+fn inner_key(code: &Code, term: Place, of: u32, number: u32) -> Option<NumberKey>
     requires { IsPlaceOf code.now term }
     ensures there { IsKeyAmong code.now.names result }
-    ensures key { named_key code.now.names result ≡ key_of (argument inner.number (argument inner.of (meaning_in code.now term))) }
+    ensures key { named_key code.now.names result ≡ key_of (argument number (argument of (meaning_in code.now term))) }
 {
-    match argument_place(code, term, inner.of) {
-        Some(place) => argument_key(code, place, inner.number),
+    match argument_place(code, term, of) {
+        Some(place) => argument_key(code, place, number),
         None => None,
     }
 }

@@ -4,7 +4,7 @@ use Rattle.au_term.specs.Term.{argument}
 use Rattle.proc_index.specs.Keys.{key_of}
 use Rattle.cell_store.specs.StoreView.{text_in}
 use Rattle.clause_index.specs.HeadKeys.{named_key}
-use Rattle.region_split.specs.Texts.{IsKeyedArgument}
+use Rattle.region_split.specs.Texts.{IsInnerConstant, IsKeyedArgument}
 use Rattle.region_split.proofs.KeyLemmas.{further_there, further_key, further_within, further_argument}
 use Rattle.region_split.proofs.ToldApartLemmas.{told_here, told_inside_here}
 use Rattle.region_split.proofs.candidates.are_apart.Goals as goal
@@ -21,8 +21,9 @@ returns-then-tell_apart c same next clause is =
     let functor = c.functor-name.ensures.functor c.in-Compound.base c.in-Compound.ensures.there in
     let own = further_argument st c.args.goal c.in-Compound.at c.in-Compound.base _ _ c.in-Compound.ensures functor inner.of c.argument-own.result c.if-inner-count.true c.argument-own.ensures.term in
     let key = subst (λ t. IfSome c.inner_key_of_value-own.result (λ x. named_key (text_in st).names (Some x) ≡ key_of (argument inner.number t))) own c.inner_key_of_value-own.ensures.key in
-    told_inside_here st c.args.text.now _ clause inner.of inner.number next c.inner_key_of_value-own.result c.inner_key.result c.requires.program c.next-next.ensures.sound c.inner_key_of_value-own.ensures.there key
-    c.inner_key.ensures.there (c.inner_key.ensures.key clause is) (sym c.tell_apart.ensures ∙ c.if-tell_apart.true)
+    let known = subst (IsInnerConstant c.args.text.now.code.names clause.head) c.in-Some.is (c.placed-placed.ensures.clause clause is).inner in
+    told_inside_here st c.args.text.now _ clause inner.of inner.number next c.inner_key_of_value-own.result (Some inner.key) c.requires.program c.next-next.ensures.sound c.inner_key_of_value-own.ensures.there key
+    known.0 known.1 (sym c.tell_apart.ensures ∙ c.if-tell_apart.true)
     (further_within st c.args.goal c.in-Compound.at c.in-Compound.base _ _ c.in-Compound.ensures functor inner.of c.if-inner-count.true)
 
 pub argument-requires : goal.argument-requires
