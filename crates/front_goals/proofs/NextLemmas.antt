@@ -29,23 +29,8 @@ use Rattle.task_stops.specs.BranchLandings.{height_of_mark, IsMarkOver}
 use Rattle.task_stops.specs.Landings.{innermost_catch}
 use Rattle.task_world.specs.FrontItems.{HasLeft}
 use Rattle.task_world.proofs.SpotLemmas.{is_plain, plain_below}
-
--- the first mark of items is the innermost catch, by its height
-pub mark_high : (levels : List Level) (s : Substitution) (items : List BranchItem) → first_mark (high levels s items) ≡ height_of_mark levels (innermost_catch items)
-mark_high levels s [] = refl
-mark_high levels s (Goal term cut ∷ items) = mark_high levels s items
-mark_high levels s (CatchEnd scope ∷ items) = refl
-mark_high levels s (Collect template scope ∷ items) = mark_high levels s items
-mark_high levels s (Remove id ∷ items) = mark_high levels s items
-mark_high levels s (End ball ∷ items) = mark_high levels s items
-
-pub mark_over : (levels : List Level) (items : List BranchItem) → Each (NamesLevels levels) (items_meant items) → IsMarkOver levels (innermost_catch items)
-mark_over levels [] names = tt
-mark_over levels (Goal term cut ∷ items) names = mark_over levels items names.1
-mark_over levels (CatchEnd scope ∷ items) names = names.0
-mark_over levels (Collect template scope ∷ items) names = mark_over levels items names.1
-mark_over levels (Remove id ∷ items) names = mark_over levels items names.1
-mark_over levels (End ball ∷ items) names = mark_over levels items names
+use Rattle.task_stops.proofs.SpotBallLemmas.{mark_high}
+use Rattle.task_stops.proofs.SpotBallLemmas.{mark_over}
 
 module _ (job : Job) (nodes : NodesView) (t : TreeState) (w : ℕ) (a : Place) (placed : IsTableOf nodes (reading job) t.root) (legal : IsLegalTree t)
     (numbered : NumberedTreesAreSettled) (scoped : ScopedItemsNameLevels) (s : Spot) (taken : taken_at w a t ≡ Some s) (item : Item ℕ) (more : List (Item ℕ))

@@ -41,11 +41,6 @@ pub record RaiseLaws : Type 0 where
   pub places : PlacesAreLevels
   pub read : LandingsRead
 
--- what it leaves has a branch
-pub landing_whole : (rows : Rows) (places landed : List Place) (b : Term) (scope : ℕ) (body : Body) → IsLandingBody rows places b landed scope body → IsWhole body
-landing_whole rows places [] b scope body h = ap is_whole h.1.made
-landing_whole rows places (p ∷ above) b scope body h = ap is_whole h.1.made
-
 module _ (laws : RaiseLaws) (job : Job) (nodes : NodesView) (t : TreeState) (w : ℕ) (a : Place) (placed : IsTableOf nodes (reading job) t.root) (legal : IsLegalTree t)
     (ball : Term) (raises : RaisesThere ball w a t) (l : BallLanding) (lands : LandsBall nodes.rows a ball l) where
   abbrev scope : ℕ

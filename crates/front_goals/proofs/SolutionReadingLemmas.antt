@@ -40,6 +40,7 @@ use Rattle.region_split.specs.StackOperations.{IsSolutionHere, solution_here}
 use Rattle.region_split.proofs.TrialLemmas.{resolved_twice, items_twice, named_twice}
 use Rattle.task_stops.proofs.QuietLemmas.{BranchLaws}
 use Rattle.front_goals.specs.SolutionBranches.{AreSolutionBranches, IsSolutionBranch, clause_removal}
+use Rattle.task_region.proofs.BranchLoadLemmas.{or_nothing_same}
 
 -- what is left behind a settled branch's first goal is settled
 left_settled : (next : ℕ) (items : List BranchItem) → list_all (is_item_settled next) items ≡ true → list_all (is_item_settled next) (items_behind items) ≡ true
@@ -49,10 +50,6 @@ left_settled next (CatchEnd scope ∷ items) h = left_settled next items h
 left_settled next (Collect template scope ∷ items) h = and-right (is_item_settled next (Collect template scope)) (list_all (is_item_settled next) items) h
 left_settled next (Remove id ∷ items) h = h
 left_settled next (End ball ∷ items) h = absurd cc
-
-values_same : (o : Option Substitution) (s : Substitution) → SameValues o (Some s) → (n : ℕ) → value_of (or_nothing o) n ≡ value_of s n
-values_same None s h = absurd h
-values_same (Some t) s h = h
 
 -- bindings leave the heights of items
 high_twice : (levels : List Level) (s after : Substitution) → ((t : Term) → resolve after (resolve s t) ≡ resolve after t) → (items : List BranchItem)
@@ -184,7 +181,7 @@ module _ (laws : BranchLaws) (job : Job) (way : Branching) (levels : List Level)
       -- what is bound further is bound last
       twice : (t : Term) → resolve after (resolve bound t) ≡ resolve after t
       twice t =
-          sym (resolved_twice bound after after (λ n. is.solves.leads.further n ∙ ap (resolve after) (sym (values_same (bound_by (segments_on way)) r.store.floor.bound start.bound n))) t)
+          sym (resolved_twice bound after after (λ n. is.solves.leads.further n ∙ ap (resolve after) (sym (or_nothing_same (bound_by (segments_on way)) r.store.floor.bound start.bound n))) t)
 
       through : (t : Term) → resolve after t ≡ resolve further (resolve r.store.now.bound t)
       through t = resolved_twice r.store.now.bound further after is.solves.composed t

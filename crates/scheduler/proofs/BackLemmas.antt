@@ -14,10 +14,7 @@ use Rattle.tree_model.specs.Events.{Event, Nodes, Prune, Suspend}
 use Rattle.tree_model.specs.Legality.{is_allowed, is_legal}
 use Rattle.tree_model.specs.Levels.{Place}
 use Rattle.tree_model.specs.TreeStates.{ended}
-
-and_apart : (x y z : Bool) → (x && (y && z)) ≡ ((x && y) && z)
-and_apart true y z = refl
-and_apart false y z = refl
+use Rattle.task_world.proofs.EventLemmas.{and_apart}
 
 pub noted_going : (h new : History) (e : Event) → is_going (state_of h) ≡ true → new ≡ while_going e h → new ≡ with_event e h
 noted_going h new e going noted = noted ∙ ap (λ (b : Bool). cond b (with_event e h) h) going

@@ -24,12 +24,7 @@ use Rattle.tree_model.specs.SoundTrees.{IsSound}
 use Rattle.tree_model.specs.TreeStates.{TreeState}
 use Rattle.tree_nodes.specs.Bodies.{Body}
 use Rattle.tree_nodes.specs.Rows.{Rows, credit_view}
-
-sleeps_there : (beside : Beside) (rows : Rows) (b : Place) → HasSleeper beside rows b → is_waking beside ≡ true → IsBesideSleeper rows b
-sleeps_there Same rows b h e = absurd (cc e)
-sleeps_there Closes rows b h e = h
-sleeps_there Gathers rows b h e = h
-sleeps_there Ends rows b h e = h
+use Rattle.task_stops.proofs.CloseLemmas.{sleeps_there}
 
 module _ (v : TreeView) (w : ℕ) (a : Place) (closing : Closing) (out : is_some (taken_at w a (state_of v.history)) ≡ true) (may : MayClose v w a closing) where
   abbrev t : TreeState

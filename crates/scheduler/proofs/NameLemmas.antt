@@ -22,17 +22,6 @@ use Rattle.tree_nodes.specs.Bodies.{Body, Branching, BodyKind, ChoiceBody, Condi
 use Rattle.tree_nodes.specs.Rows.{StoredNode, Rows, row_of_node}
 use Rattle.tree_nodes.specs.TreeTables.{stored_body}
 
--- each place up is at a node
-pub all_there : (rows : Rows) (places : List Place) (from to : Option Place) → LeadsUp rows places from to → AreAtNodes rows places
-all_there rows [] from to h = tt
-all_there rows (p ∷ places) from to h = (ap is_some h.1.1.0.is, all_there rows places h.1.0 to h.1.1.1)
-
-pub node_at : (rows : Rows) (xs : List AltRef) → AreAtNodes rows (map place_view xs) → (i : ℕ) (d : AltRef) → i < length xs
-    → is_some (row_of_node rows (slice_index_or xs i d).node) ≡ true
-node_at rows [] h i d l = absurd (omega arith)
-node_at rows (x ∷ xs) h zero d l = h.0
-node_at rows (x ∷ xs) h (suc i) d l = node_at rows xs h.1 i d (omega arith)
-
 -- the body of a node that is there
 pub stored : (o : Option StoredNode) (body : Body) → option_map (λ (r : StoredNode). r.body) o ≡ Some body → stored_body missing_body o ≡ body
 stored None body e = absurd cc

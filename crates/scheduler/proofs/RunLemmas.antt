@@ -11,10 +11,7 @@ use Rattle.scheduler.specs.declared.job_run.JobRun.{JobRun}
 use Rattle.scheduler.proofs.EventLemmas.{noted_same}
 use Rattle.tree_core.specs.Histories.{History, state_of}
 use Rattle.tree_model.specs.Levels.{Place}
-
--- the statics of a world by those of its database
-statics_same : (old new : KeptWorld) → new.database.statics ≡ old.database.statics → statics_of new ≡ statics_of old
-statics_same old new h = ap (λ l (name : List ℕ) (arity : ℕ). is_reserved name arity || is_static l (record { name = name; arity = arity })) h
+use Rattle.stack_run.proofs.RunLemmas.{statics_same}
 
 -- with another world, and another count of the queries that were opened
 pub run_moved : (h new : History) (run : JobRun) (world : KeptWorld) (asked : ℕ) → IsJobRun h run → new.job ≡ h.job

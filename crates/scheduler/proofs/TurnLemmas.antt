@@ -14,6 +14,7 @@ use Rattle.scheduler.specs.GivenBack.{IsGivenBack, leaves_world}
 use Rattle.scheduler.specs.JobRuns.{EventsLeaveRuns, IsJobRun}
 use Rattle.scheduler.specs.declared.job_run.JobRun.{JobRun}
 use Rattle.scheduler.specs.Driving.{GoesOut, IsDriven}
+use Rattle.au_term.proofs.LogicLemmas.{neither}
 
 -- while a tree goes on, what is not offered is not there
 pub not_there : (offer : TreeState → Option Spot) (t : TreeState) → is_going t ≡ true → None ≡ offered_at offer t → offer t ≢ None → ⊥
@@ -49,10 +50,6 @@ back_no_stop a (Lost w b) h = refl
 back_no_stop a (Prune w b) h = refl
 back_no_stop a (Answer w b frozen) h = refl
 back_no_stop a (Stop w) h = let no_way : ⊥ = cc in absurd no_way
-
-neither : (a b : Bool) → (a || b) ≡ false → (a ≡ false) × (b ≡ false)
-neither false b h = (refl, h)
-neither true b h = let no_way : ⊥ = cc in absurd no_way
 
 no_stop_more : (es : List Event) (e : Event) → list_any is_stop es ≡ false → is_stop e ≡ false → list_any is_stop (es ++ e ∷ []) ≡ false
 no_stop_more [] e h k = ap (λ (b : Bool). b || false) k

@@ -119,7 +119,7 @@ pub record HasStopped (job : Job) (program : Program) (m : Machine) (halted : Op
   pub out : IsOut job program m taken waiting before now faults_before faults_now
 
 -- the statics of a world by those of its database
-statics_same : (old new : KeptWorld) → new.database.statics ≡ old.database.statics → statics_of new ≡ statics_of old
+pub statics_same : (old new : KeptWorld) → new.database.statics ≡ old.database.statics → statics_of new ≡ statics_of old
 statics_same old new h = ap (λ l (name : List ℕ) (arity : ℕ). is_reserved name arity || is_static l (record { name = name; arity = arity })) h
 
 pub statics_by : (r : RegionView) (job : Job) (w : KeptWorld) → r.text.clauses ≡ job.clauses → AreStatics w.database.statics job.clauses → HasStatics r w

@@ -15,9 +15,9 @@ mod JoinedLemmas
 mod FloorEndLemmas
 mod TakenLemmas
 mod NodesDownLemmas
-mod BodyLemmas
+pub mod BodyLemmas
 pub mod StoppedLemmas
-mod SpotLemmas
+pub mod SpotLemmas
 mod TaskRunLemmas
 pub mod TaskLemmas
 pub mod JobLemmas

@@ -83,7 +83,7 @@ named_beside true (FindallBody results list) s f h = h.2.named
 named_beside true QueryBody s f h = h.named
 
 -- a variable from the next number on is not bound
-below_all : (eqs : Equations) (v : ℕ) (value : Term) → Contains eqs (VarTerm v, value) → v < equations_bound eqs
+pub below_all : (eqs : Equations) (v : ℕ) (value : Term) → Contains eqs (VarTerm v, value) → v < equations_bound eqs
 below_all [] v value c = let lt = c.1 in absurd (omega (arith, lt))
 below_all (e ∷ eqs) v value c = elim (Contains-append_cases (e ∷ []) eqs (VarTerm v, value) c) [
   | inl k ↦ elim (Contains-push_cases [] e (VarTerm v, value) k) [

@@ -60,12 +60,12 @@ same_named s u h (v ∷ vs) = ap₂ (λ (r : Term) rs. record v { term = r } ∷
 same_continuation : (s u : Substitution) → ((n : ℕ) → value_of s n ≡ value_of u n) → (f : Continuation ℕ) → resolve_continuation s f ≡ resolve_continuation u f
 same_continuation s u h f = ap₂ (λ items named. record { items = items; named = named; next = f.next }) (same_items s u h f.items) (same_named s u h f.named)
 
-or_nothing_same : (o : Option Substitution) (s : Substitution) → SameValues o (Some s) → (n : ℕ) → value_of (or_nothing o) n ≡ value_of s n
+pub or_nothing_same : (o : Option Substitution) (s : Substitution) → SameValues o (Some s) → (n : ℕ) → value_of (or_nothing o) n ≡ value_of s n
 or_nothing_same None s h = absurd h
 or_nothing_same (Some u) s h = h
 
 -- what a settled branch reads as
-no_end_meant : (next : ℕ) (items : List BranchItem) (e : Entry) → list_all (is_item_settled next) items ≡ true → entry_meant items e ≡ e
+pub no_end_meant : (next : ℕ) (items : List BranchItem) (e : Entry) → list_all (is_item_settled next) items ≡ true → entry_meant items e ≡ e
 no_end_meant next [] e h = refl
 no_end_meant next (End ball ∷ items) e h = false_true h
 no_end_meant next (Goal t s ∷ items) e h = refl

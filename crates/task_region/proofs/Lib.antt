@@ -14,7 +14,7 @@ mod RunningLemmas
 mod CompoundRoundLemmas
 pub mod ResultLemmas
 mod MadeLemmas
-mod PlaceUpLemmas
+pub mod PlaceUpLemmas
 mod HeightLemmas
 mod BindingLemmas
 pub mod BranchLoadLemmas

@@ -29,7 +29,7 @@ use Rattle.task_stops.proofs.WokenLemmas.{second_within}
 use Rattle.task_stops.specs.Landings.{IsReadableBeside, PassesOn, bound_on, is_beside_sleeper, taken_on, way_beside}
 use Rattle.task_stops.specs.LandingBodies.{IsRecoveryBody, body_with, node_above}
 use Rattle.task_stops.specs.TakenBalls.{LeadsToTaken, taken_over}
-use Rattle.task_stops.proofs.RecoveryLemmas.{values_same}
+use Rattle.task_region.proofs.BranchLoadLemmas.{or_nothing_same}
 
 pub stored_is : (o : Option StoredNode) (b : Body) → option_map (λ (r : StoredNode). r.body) o ≡ Some b → stored_body missing_body o ≡ b
 stored_is None b e = absurd (cc e)
@@ -66,7 +66,7 @@ module _ (rows : Rows) (p : Place) (above : List Place) (body : Body) (catcher r
       omega (arith, a, b)
 
   value_is : (n : ℕ) → value_of (bound_on way) n ≡ value_of region.store.now.bound n
-  value_is = values_same (bound_by (segments_on way)) region.store.now.bound bound.bound.bound
+  value_is = or_nothing_same (bound_by (segments_on way)) region.store.now.bound bound.bound.bound
 
   asked_alike : (ball : Term) → taken_on way catcher ball ≡ taken_over region.store.now catcher ball
   asked_alike ball =

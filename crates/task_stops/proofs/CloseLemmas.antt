@@ -27,7 +27,7 @@ use Rattle.task_stops.specs.WokenBodies.{IsGivenFor}
 use Rattle.branch_shapes.proofs.OutLemmas.{IsOutAt, out_at, spot_out}
 use Rattle.task_stops.specs.TaskEnds.{EndsOut}
 
-sleeps_there : (beside : Beside) (rows : Rows) (b : Place) → HasSleeper beside rows b → is_waking beside ≡ true → IsBesideSleeper rows b
+pub sleeps_there : (beside : Beside) (rows : Rows) (b : Place) → HasSleeper beside rows b → is_waking beside ≡ true → IsBesideSleeper rows b
 sleeps_there Same rows b h e = absurd (cc e)
 sleeps_there Closes rows b h e = h
 sleeps_there Gathers rows b h e = h

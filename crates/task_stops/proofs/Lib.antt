@@ -6,10 +6,10 @@ mod SuspendLemmas
 mod UntakenLemmas
 mod EndLemmas
 mod GivenLemmas
-mod CloseLemmas
+pub mod CloseLemmas
 mod ThrownBallLemmas
-mod CopiedBallLemmas
-mod SpotBallLemmas
+pub mod CopiedBallLemmas
+pub mod SpotBallLemmas
 mod FallLemmas
 pub mod GatheredLemmas
 pub mod QuietLemmas

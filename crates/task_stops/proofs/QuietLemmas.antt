@@ -22,6 +22,9 @@ use Rattle.branch_reading.specs.Readings.{items_meant, named_of, or_nothing, que
 use Rattle.branch_reading.specs.SettledWays.{are_bound_once, are_segments_settled, is_binding_settled, is_branch_settled, is_item_settled, is_way_settled, items_on}
 use Rattle.branch_shapes.specs.ExtendedWays.{WayBinds, BranchLeadsOn, SettledSegmentsBind, EmptySegmentsLead, BranchesReadBound}
 use Rattle.task_stops.specs.WokenBodies.{quiet_body}
+use Rattle.branch_shapes.proofs.RestReadingLemmas.{segments_settled}
+use Rattle.branch_shapes.proofs.RestReadingLemmas.{bound_there}
+use Rattle.task_publishing.proofs.SpotLemmas.{below_all}
 
 -- laws of branches
 pub record BranchLaws : Type 0 where
@@ -37,35 +40,15 @@ bound_is : (o : Option Substitution) → is_some o ≡ true → SameValues o (So
 bound_is None h = absurd (cc h)
 bound_is (Some s) h = λ n. refl
 
-segments_are : (way : Branching) → is_way_settled way ≡ true → are_segments_settled (segments_on way) ≡ true
-segments_are [] h = absurd (cc h)
-segments_are ((b, i) ∷ up) h =
-    and-left (are_segments_settled (segments_on ((b, i) ∷ up))) (is_branch_settled (next_number (segments_on ((b, i) ∷ up))) b.kind i (items_on ((b, i) ∷ up))) h
-
-bound_is_there : (way : Branching) → is_way_settled way ≡ true → SameValues (bound_by (segments_on way)) (Some (or_nothing (bound_by (segments_on way))))
-bound_is_there way settled =
-    let bs = bindings_on (segments_on way) in
-    bound_is (bound_by (segments_on way))
-    (and-right (are_bound_once bs) _ (and-right (list_all (is_binding_settled (next_number (segments_on way))) bs) _ (segments_are way settled)))
-
--- a variable that an equation binds is below their bound
-bound_below : (eqs : Equations) (v : ℕ) (u : Term) → Contains eqs (VarTerm v, u) → v < equations_bound eqs
-bound_below eqs v u c = at_index eqs c.0 c.1 c.2
-  where
-    at_index : (xs : Equations) (k : ℕ) → k < length xs → slice_index_or xs k (VarTerm v, u) ≡ (VarTerm v, u) → v < equations_bound xs
-    at_index [] k lt e = absurd (omega (arith, lt))
-    at_index (x ∷ xs) zero lt e = let h : var_bound x.0 ≡ var_bound (VarTerm v) = ap (λ (p : Term × Term). var_bound p.0) e in omega (arith, h)
-    at_index (x ∷ xs) (suc k) lt e = let h : v < equations_bound xs = at_index xs k (omega (arith, lt)) e in omega (arith, h)
-
 module _ (laws : BranchLaws) (way : Branching) (settled : is_way_settled way ≡ true) where
   abbrev pub bound_on : Substitution
   bound_on = or_nothing (bound_by (segments_on way))
 
   pub way_binds : WayBinds way bound_on
-  way_binds = laws.bind (segments_on way) bound_on (segments_are way settled) (bound_is_there way settled)
+  way_binds = laws.bind (segments_on way) bound_on (segments_settled way settled) (bound_there way settled)
 
   final : IsFinal bound_on
-  final = unifiers_are_final (binding_equations (bindings_on (segments_on way))) bound_on (bound_is_there way settled)
+  final = unifiers_are_final (binding_equations (bindings_on (segments_on way))) bound_on (bound_there way settled)
 
   -- what is bound on it leaves the numbers from its next one on
   pub free_from_next : (n : ℕ) → next_number (segments_on way) ≤ n → value_of bound_on n ≡ VarTerm n
@@ -76,7 +59,7 @@ module _ (laws : BranchLaws) (way : Branching) (settled : is_way_settled way ≡
       by_case : (value_of bound_on n ≡ VarTerm n) ⊎ HasBinding (binding_equations (bindings_on (segments_on way))) n → value_of bound_on n ≡ VarTerm n
       by_case (inl h) = h
       by_case (inr b) =
-          let lt : n < equations_bound (binding_equations (bindings_on (segments_on way))) = bound_below (binding_equations (bindings_on (segments_on way))) n b.value b.is in
+          let lt : n < equations_bound (binding_equations (bindings_on (segments_on way))) = below_all (binding_equations (bindings_on (segments_on way))) n b.value b.is in
           let most : equations_bound (binding_equations (bindings_on (segments_on way))) ≤ next_number (segments_on way) = way_binds.below in
           absurd (omega (arith, lt, most, le))
 

@@ -43,6 +43,8 @@ use Rattle.task_stops.specs.LandingBodies.{body_with, node_above, IsRecoveryBody
 use Rattle.task_stops.proofs.QuietLemmas.{BranchLaws}
 use Rattle.task_publishing.proofs.GoalLemmas.{settled_more}
 use Rattle.task_stops.proofs.SameWayLemmas.{ways_same}
+use Rattle.task_region.proofs.BranchLoadLemmas.{or_nothing_same}
+use Rattle.branch_shapes.proofs.RestReadingLemmas.{segments_settled}
 
 -- one substitution after another
 resolved_after : (s o after : Substitution) → IsComposition s o after → (t : Term) → resolve after t ≡ resolve o (resolve s t)
@@ -90,15 +92,6 @@ row_or r (Some x) = x
 call_below : (n m : ℕ) (t : Term) → n ≤ m → is_term_below n t ≡ true → is_term_below m (call_of t) ≡ true
 call_below n m t le h = grind (arith, nat_tests)
 
-pub values_same : (o : Option Substitution) (s : Substitution) → SameValues o (Some s) → (n : ℕ) → value_of (or_nothing o) n ≡ value_of s n
-values_same None s h = absurd h
-values_same (Some t) s h = h
-
-segments_are : (w : Branching) → is_way_settled w ≡ true → are_segments_settled (segments_on w) ≡ true
-segments_are [] h = absurd (cc h)
-segments_are ((b, i) ∷ up) h =
-    and-left (are_segments_settled (segments_on ((b, i) ∷ up))) (is_branch_settled (next_number (segments_on ((b, i) ∷ up))) b.kind i (items_on ((b, i) ∷ up))) h
-
 module _ (laws : BranchLaws) (job : Job) (rows : Rows) (levels : List Level) (p : Place) (above : List Place) (ball : Term) (stack : List Entry) (body : Body)
     (h : IsTakenAt job rows ball levels p above stack) (m : IsRecoveryBody rows p above ball body) where
   abbrev way : Branching
@@ -126,7 +119,7 @@ module _ (laws : BranchLaws) (job : Job) (rows : Rows) (levels : List Level) (p 
   unifier_same = let k : Some h.unifier ≡ Some m.unifier = sym h.takes ∙ (ap (λ t. taken_on way t ball) catcher_same ∙ m.takes) in cc k
 
   before : WayBinds way m.before
-  before = laws.bind (segments_on way) m.before (segments_are way h.settled) m.same
+  before = laws.bind (segments_on way) m.before (segments_settled way h.settled) m.same
 
   final : IsFinal m.before
   final = unifiers_are_final (binding_equations (bindings_on (segments_on way))) m.before before.unified
@@ -174,7 +167,7 @@ module _ (laws : BranchLaws) (job : Job) (rows : Rows) (levels : List Level) (p 
   entry = PlainEntry (recovered_by h.unifier ball (resolve s h.recovery) h.up (continuation_bound job way))
 
   composed : IsComposition s h.unifier m.after
-  composed = subst (λ o. IsComposition s o m.after) (sym unifier_same) (λ n. m.composed n ∙ ap (resolve m.unifier) (sym (values_same (bound_by (segments_on way)) m.before m.same n)))
+  composed = subst (λ o. IsComposition s o m.after) (sym unifier_same) (λ n. m.composed n ∙ ap (resolve m.unifier) (sym (or_nothing_same (bound_by (segments_on way)) m.before m.same n)))
 
   first_back : resolve m.after (call_of m.recovery) ≡ resolve h.unifier (call_of (resolve s h.recovery))
   first_back = resolved_after s h.unifier m.after composed (call_of m.recovery) ∙ ap (λ t. resolve h.unifier (call_of (resolve s t))) (sym recovery_same)

@@ -40,7 +40,7 @@ use Rattle.task_stops.specs.Landings.{innermost_catch}
 use Rattle.task_stops.specs.ThrownBalls.{IsAtBall}
 
 -- the first mark of items is the innermost catch, by its height
-mark_high : (levels : List Level) (s : Substitution) (items : List BranchItem) → first_mark (high levels s items) ≡ height_of_mark levels (innermost_catch items)
+pub mark_high : (levels : List Level) (s : Substitution) (items : List BranchItem) → first_mark (high levels s items) ≡ height_of_mark levels (innermost_catch items)
 mark_high levels s [] = refl
 mark_high levels s (Goal term cut ∷ items) = mark_high levels s items
 mark_high levels s (CatchEnd scope ∷ items) = refl
@@ -48,7 +48,7 @@ mark_high levels s (Collect template scope ∷ items) = mark_high levels s items
 mark_high levels s (Remove id ∷ items) = mark_high levels s items
 mark_high levels s (End ball ∷ items) = mark_high levels s items
 
-mark_over : (levels : List Level) (items : List BranchItem) → Each (NamesLevels levels) (items_meant items) → IsMarkOver levels (innermost_catch items)
+pub mark_over : (levels : List Level) (items : List BranchItem) → Each (NamesLevels levels) (items_meant items) → IsMarkOver levels (innermost_catch items)
 mark_over levels [] names = tt
 mark_over levels (Goal term cut ∷ items) names = mark_over levels items names.1
 mark_over levels (CatchEnd scope ∷ items) names = names.0

@@ -215,9 +215,5 @@ following_made body n records results list second next goals item all e gs is vi
     ∙ (ap (λ (x : ResultsView). quiet_body next (unifying_item n list x.terms ∷ second.goals) x.next) view
     ∙ ap (λ (m : ℕ). (let g = gathered records (record { terms = results; next = m }) in quiet_body m (unifying_item n list g.terms ∷ second.goals) g.next)) number))
 
-pub if_ok : {A E : Type 0} (r : Result A E) (P Q : A → Type 0) → IfOk r P → ((a : A) → P a → Q a) → IfOk r Q
-if_ok (Ok a) P Q h f = f a h
-if_ok (Err e) P Q h f = tt
-
 pub same_made : (body : Body) (second : Branch) (next : ℕ) → body ≡ quiet_body next second.goals next → next ≡ second.segment.base + second.segment.vars → body ≡ same_body second
 same_made body second next e number = e ∙ ap (λ (m : ℕ). quiet_body m second.goals m) number

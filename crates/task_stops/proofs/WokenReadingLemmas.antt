@@ -28,6 +28,7 @@ use Rattle.task_stops.specs.GatheredResults.{gathered, unifying_item}
 use Rattle.task_stops.specs.WokenBodies.{quiet_body, same_body, following_body, woken_by}
 use Rattle.task_stops.proofs.GatheredLemmas.{gathered_entry, gathered_below, gathered_more, gathered_bound, list_resolved, list_bound}
 use Rattle.task_stops.proofs.QuietLemmas.{BranchLaws, bound_on, free_from_next, quiet_reads}
+use Rattle.task_region.proofs.BranchLoadLemmas.{no_end_meant}
 
 term_below : (n : ℕ) (t : Term) → is_term_below n t ≡ true → var_bound t ≤ n
 term_below n t h = grind (arith, nat_tests)
@@ -52,15 +53,6 @@ item_below n m (End ball) le h = h
 items_below : (n m : ℕ) (is : List BranchItem) → n ≤ m → list_all (is_item_settled n) is ≡ true → list_all (is_item_settled m) is ≡ true
 items_below n m [] le h = refl
 items_below n m (i ∷ is) le h = and-both _ _ (item_below n m i le (and-left _ _ h)) (items_below n m is le (and-right (is_item_settled n i) _ h))
-
--- a settled branch has no end among its items
-no_end_among : (n : ℕ) (is : List BranchItem) (e : Entry) → list_all (is_item_settled n) is ≡ true → entry_meant is e ≡ e
-no_end_among n [] e h = refl
-no_end_among n (Goal term cut ∷ is) e h = refl
-no_end_among n (CatchEnd scope ∷ is) e h = refl
-no_end_among n (Collect template scope ∷ is) e h = refl
-no_end_among n (Remove id ∷ is) e h = refl
-no_end_among n (End ball ∷ is) e h = absurd (cc h)
 
 module _ (laws : BranchLaws) (job : Job) (b : Body) (above : Branching) (second : Branch) (there : slice_get b.branches 1 ≡ Some second) (n : ℕ) (records : List Term) where
   abbrev way : Branching
@@ -99,7 +91,7 @@ module _ (laws : BranchLaws) (job : Job) (b : Body) (above : Branching) (second 
     sleeper_reads : (k : BodyKind) → b.kind ≡ k → reading job way ≡ guard_meant k s following
     sleeper_reads k e =
         ap (λ is. entry_meant (items_on way) (entry_if is (entry_on job way))) settled
-        ∙ (no_end_among next (items_on way) (entry_on job way) own_items ∙ ap (λ x. guard_meant x s following) e)
+        ∙ (no_end_meant next (items_on way) (entry_on job way) own_items ∙ ap (λ x. guard_meant x s following) e)
 
     module _ (results : List Term) (list : Term) (kind : b.kind ≡ FindallBody results list) where
       abbrev all : ResultsView

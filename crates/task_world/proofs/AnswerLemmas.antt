@@ -3,6 +3,7 @@ use Rattle.std.proofs.Common.{◌≡◌, ℕ, true, List, Some, sym, ap, ◌∙�
 use Rattle.std.specs.Prelude.{is_some}
 use Rattle.au_model.specs.Terms.Named.{NamedTerm}
 use Rattle.au_model.specs.Writing.Lines.{answer_line}
+use Rattle.branch_shapes.proofs.OutLemmas.{spot_out as spot}
 use Rattle.run_model.specs.Goals.Worlds.{World, writes}
 use Rattle.tree_model.specs.Effects.{spot_stack}
 use Rattle.tree_model.specs.EventViews.{place_view}
@@ -17,7 +18,6 @@ use Rattle.tree_core.specs.Histories.{History, state_of}
 use Rattle.public_tree.specs.PublicTrees.{is_going}
 use Rattle.task_world.specs.FrontSteps.{IsWorldAfter}
 use Rattle.task_world.proofs.EventLemmas.{is_world_after}
-use Rattle.task_world.proofs.FrontLemmas.{spot}
 use Rattle.tree_nodes.specs.Rows.{credit_view}
 use Rattle.tree_nodes.specs.TreeTables.{NodesView}
 use Rattle.tree_closing.specs.Closings.{ComesToRest}

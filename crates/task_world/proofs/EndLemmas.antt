@@ -3,6 +3,7 @@ use Rattle.std.proofs.Common.{◌≡◌, ◌≤◌, ℕ, Bool, true, cond, List,
 use Rattle.std.specs.Prelude.{is_some, slice_get}
 use Rattle.au_term.specs.Term.{Term}
 use Rattle.au_model.specs.Writing.Lines.{end_line}
+use Rattle.branch_shapes.proofs.OutLemmas.{spot_out as spot}
 use Rattle.run_model.specs.Goals.Worlds.{World, writes}
 use Rattle.run_model.specs.Machine.Entries.{Entry, EndEntry}
 use Rattle.run_model.specs.Programs.Jobs.{Query}
@@ -40,7 +41,6 @@ use Rattle.task_world.specs.OutTasks.{EndsQueryAt}
 use Rattle.task_world.specs.FrontSteps.{IsWorldAfter, front_event}
 use Rattle.task_world.specs.declared.step.FrontStep.TheVariants.{Done}
 use Rattle.task_world.proofs.EventLemmas.{allowed, legal, is_world_after}
-use Rattle.task_world.proofs.FrontLemmas.{spot}
 use Rattle.task_world.specs.QueryEnds.{still_left}
 use Rattle.task_world.proofs.WayLemmas.{queries_same}
 

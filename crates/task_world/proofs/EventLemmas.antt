@@ -21,7 +21,7 @@ use Rattle.tree_core.specs.Histories.{TreeView}
 use Rattle.task_world.specs.FrontSteps.{ComesAbout, IsWorldAfter, front_event}
 use Rattle.task_world.specs.declared.step.FrontStep.TheVariants.{Done}
 
-and_apart : (x y z : Bool) → (x && (y && z)) ≡ ((x && y) && z)
+pub and_apart : (x y z : Bool) → (x && (y && z)) ≡ ((x && y) && z)
 and_apart true y z = refl
 and_apart false y z = refl
 

@@ -26,15 +26,11 @@ use Rattle.public_tree.specs.Answering.{AtFront, ClosesAs, GoesOnAs, front_credi
 use Rattle.task_world.specs.FrontSteps.{LeavesBehind, LeavesRest}
 use Rattle.task_world.proofs.BranchLemmas.{rest_on}
 use Rattle.task_world.proofs.SpotLemmas.{at, cell_there, is_plain, on, plain_below, way}
+use Rattle.branch_shapes.proofs.OutLemmas.{spot_out as spot}
 
 -- of two names of a front
 same_front : {f g : Continuation ℕ} {es : List Entry} → PlainEntry f ∷ es ≡ PlainEntry g ∷ es → f ≡ g
 same_front h = cc
-
--- what is out is there
-pub spot : (o : Option Spot) → is_some o ≡ true → (s : Spot) × (o ≡ Some s)
-spot None out = absurd (cc out)
-spot (Some s) out = (s, refl)
 
 module _ (job : Job) (nodes : NodesView) (t : TreeState) (w : ℕ) (a : Place) (placed : IsTableOf nodes (reading job) t.root) where
   pub is_there : is_some (taken_at w a t) ≡ true → IsSome (cell_at nodes.rows a)

@@ -1,6 +1,7 @@
 -- The removal of a clause at the front.
 use Rattle.std.proofs.Common.{◌≡◌, ℕ, Bool, true, false, List, [], ◌∷◌, Some, sym, ap, ◌∙◌}
 use Rattle.std.specs.Prelude.{is_some}
+use Rattle.branch_shapes.proofs.OutLemmas.{spot_out as spot}
 use Rattle.run_model.specs.Goals.Worlds.{World}
 use Rattle.run_model.specs.Machine.Entries.{PlainEntry}
 use Rattle.run_model.specs.Machine.Items.{RemovalItem, Continuation, with_items}
@@ -20,7 +21,6 @@ use Rattle.region_world.specs.WorldGoals.{RemovesClause}
 use Rattle.task_world.specs.FrontItems.{RemovesNext, IsRemovalNext}
 use Rattle.task_world.specs.FrontSteps.{GoesOnBehind, IsWorldAfter, LeavesRest}
 use Rattle.task_world.proofs.EventLemmas.{is_world_after}
-use Rattle.task_world.proofs.FrontLemmas.{spot}
 
 module _ (t : TreeState) (number : ℕ) (s : Spot) (r : RemovesNext number s) where
   abbrev levels : List Level

@@ -10,7 +10,8 @@ use Rattle.branch_shapes.specs.RestBodies.{items_behind}
 use Rattle.tree_core.specs.Histories.{state_of}
 use Rattle.task_stops.specs.FoundLandings.{HasReadableCatches, LandsBall}
 use Rattle.task_stops.specs.Landings.{innermost_catch, landing}
-use Rattle.front_goals.proofs.RaisedLemmas.{RaiseLaws, falls_as, landing_whole}
+use Rattle.front_goals.proofs.RaisedLemmas.{RaiseLaws, falls_as}
+use Rattle.task_stops.proofs.CopiedBallLemmas.{landing_whole}
 use Rattle.front_goals.proofs.balls.raise_at_front.Goals as goal
 
 pub land_ball-requires-clause-there : goal.land_ball-requires-clause-there

@@ -1,4 +1,4 @@
-use Rattle.scheduler.proofs.NameLemmas.{node_at}
+use Rattle.task_region.proofs.PlaceUpLemmas.{node_at}
 use Rattle.scheduler.proofs.names.count_queries.Goals as goal
 
 pub body-requires : goal.body-requires

@@ -2,7 +2,7 @@ use Rattle.std.proofs.Common.{List, None, Some, map, sym, subst}
 use Rattle.task_region.specs.PlacesUp.{AreAtNodes}
 use Rattle.tree_model.specs.EventViews.{place_view}
 use Rattle.tree_model.specs.declared.places.AltRef.{AltRef}
-use Rattle.scheduler.proofs.NameLemmas.{all_there}
+use Rattle.task_region.proofs.PlaceUpLemmas.{all_there}
 use Rattle.scheduler.proofs.names.opened_on.Goals as goal
 
 pub count_queries-requires : goal.count_queries-requires

@@ -5,7 +5,8 @@ use Rattle.tree_nodes.specs.Bodies.{body_view, kind_view}
 use Rattle.tree_nodes.specs.Rows.{alternatives_at, row_of_node}
 use Rattle.tree_nodes.specs.declared.body.NodeBody.{NodeBody}
 use Rattle.task_stops.specs.GatheredResults.{gathered_view, unifying_item}
-use Rattle.task_stops.proofs.WokenLemmas.{got_at, second_within, made_woken, following_made, if_ok, same_made}
+use Rattle.task_stops.proofs.WokenLemmas.{got_at, second_within, made_woken, following_made, same_made}
+use Rattle.task_publishing.proofs.BodyLemmas.{if_ok}
 use Rattle.task_stops.proofs.woken.body_beside.Goals as goal
 
 pub returns-in_ok-goals-in-Findall : goal.returns-in_ok-goals-in-Findall
