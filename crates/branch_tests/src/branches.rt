@@ -23,6 +23,12 @@ fn test_and_cut(alloc: Global, value: i64, node: u64) -> Result<Goals, Fail> {
     before(alloc, above(alloc, value)?, node, &cut)
 }
 
+/// `true` in one scope, and `!` in another.
+fn true_and_cut(alloc: Global, node: u64, cut: u64) -> Result<Goals, Fail> {
+    let last = one(alloc, atom(alloc, "!")?, cut)?;
+    before(alloc, atom(alloc, "true")?, node, &last)
+}
+
 /// `throw(X)`.
 fn throwing(alloc: Global) -> Result<Goals, Fail> {
     one(alloc, unary(alloc, "throw", &variable(alloc)?)?, 1)
@@ -84,4 +90,15 @@ fn shared_bindings_hold(rt: HostRuntime) -> Result<(), Fail> {
     branches.push(branch(alloc, throwing(alloc)?, None)?)?;
     let nodes = choice(&rt, alloc, Some(9), branches)?;
     expect_stop(&rt, alloc, &nodes, 0, (0, Why::Ball(Top::Int(9))))
+}
+
+#[test]
+fn each_goal_has_its_own_scope(rt: HostRuntime) -> Result<(), Fail> {
+    let alloc = rt.alloc();
+    let mut branches = Vec::new(alloc);
+    branches.push(branch(alloc, true_and_cut(alloc, 1, 0)?, None)?)?;
+    branches.push(branch(alloc, true_and_cut(alloc, 0, 1)?, None)?)?;
+    let nodes = choice(&rt, alloc, None, branches)?;
+    expect_stop(&rt, alloc, &nodes, 0, (1, Why::Cut(1)))?;
+    expect_stop(&rt, alloc, &nodes, 1, (2, Why::World))
 }

@@ -73,6 +73,22 @@ fn uncaught_ball_ends_a_task(rt: HostRuntime) -> Result<(), Fail> {
     expect_goal_stops(&rt, alloc, goal, 100, first, second)
 }
 
+/// So many goals that hold.
+fn holding(alloc: Global, many: u32) -> Result<Goals, Fail> {
+    let mut goals = Goals::empty();
+    for _ in 0..many {
+        goals = before(alloc, atom(alloc, "true")?, 0, &goals)?;
+    }
+    Ok(goals)
+}
+
+#[test]
+fn each_goal_is_taken_once(rt: HostRuntime) -> Result<(), Fail> {
+    let alloc = rt.alloc();
+    let (first, second) = ((9, Why::Limit), (11, Why::World));
+    expect_stops(&rt, alloc, holding(alloc, 20)?, 9, first, second)
+}
+
 /// A result of the variable for a findall at a node.
 fn result(alloc: Global, node: u64) -> Result<Goals, Fail> {
     let template = Shared::from_term(alloc, variable(alloc)?)?;

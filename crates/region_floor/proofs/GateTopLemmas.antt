@@ -1,11 +1,11 @@
 -- What is on top of own entries, and what is deferred there.
-use Rattle.std.proofs.Common.{◌≡◌, ℕ, zero, suc, ◌-◌, ◌<◌, true, cond, List, [], ◌∷◌, ◌++◌, map, length, drop, Some, None, refl, sym, ap, ◌∙◌, subst}
-use Rattle.std.proofs.lemmas.List.{append-nil}
+use Rattle.std.proofs.Common.{◌≡◌, ℕ, zero, suc, ◌+◌, ◌-◌, ◌<◌, true, cond, List, [], ◌∷◌, ◌++◌, map, length, drop, Some, None, refl, sym, ap, ◌∙◌, subst, arith}
+use Rattle.std.proofs.lemmas.List.{append-nil, append_assoc}
 use Rattle.std.specs.Prelude.{nat_lt}
 use Rattle.au_term.specs.Term.{Term}
 use Rattle.au_term.proofs.LogicLemmas.{less}
 use Rattle.run_model.specs.Programs.Clauses.{Clause}
-use Rattle.run_model.specs.Machine.Items.{Item, GoalItem, CatchMark, CollectMark, RemovalItem, Continuation, with_items, without_marks, before}
+use Rattle.run_model.specs.Machine.Items.{Item, GoalItem, CatchMark, CollectMark, RemovalItem, Continuation, with_items, without_marks, goals_at, before}
 use Rattle.run_model.specs.Machine.Entries.{Entry, PlainEntry, collected}
 use Rattle.tree_model.specs.Nodes.{CutGate}
 use Rattle.tree_model.specs.Levels.{Level}
@@ -14,9 +14,11 @@ use Rattle.tree_model.specs.Gates.{goal_gate, item_gate, gate_on}
 use Rattle.tree_model.specs.Legality.{gives_result}
 use Rattle.tree_model.specs.PrivateRuns.{own_free_step, own_free_steps, one_more}
 use Rattle.region_floor.specs.Deferred.{Deferred, deferred_now, joined_items, joined_continuation, joined_entry}
-use Rattle.region_floor.specs.BareFloors.{true_stack, true_rest, bare_stack, RestsPrivately}
+use Rattle.region_floor.specs.BareFloors.{AreOwnItems, true_stack, true_rest, bare_stack, RestsPrivately}
 use Rattle.region_floor.specs.GateLaws.{WorldGoalsAreGates, HaltsAreGates, CutsAreGates, deferred_entries, HasDeferred, AnswersAreGates, RemovalsAreGates, GoalsLoad, CatchMarksSkip, GivesResult, ResultsAreGiven}
 use Rattle.region_floor.proofs.FloorSizeLemmas.{floor-size}
+use Rattle.region_floor.proofs.JoinedLemmas.{goals-joined}
+use Rattle.region_floor.proofs.OwnGoalLemmas.{goals-own}
 
 -- goals
 pub world_goals_are_gates : WorldGoalsAreGates
@@ -37,6 +39,11 @@ dropped zero [] x ys e = absurd cc
 dropped zero (y ∷ xs) x ys e = cc
 dropped (suc k) [] x ys e = absurd cc
 dropped (suc k) (y ∷ xs) x ys e = dropped k xs x ys e
+
+past-goals : (h : ℕ) (goals : List Term) (k : ℕ) (xs l : List (Item ℕ)) → drop k xs ≡ goals_at h goals ++ l → drop (k + length goals) xs ≡ l
+past-goals h [] k xs l e = ap (λ n. drop n xs) (omega arith) ∙ e
+past-goals h (g ∷ goals) k xs l e =
+    ap (λ n. drop n xs) (omega arith) ∙ past-goals h goals (suc k) xs l (dropped k xs (GoalItem g h) (goals_at h goals ++ l) e)
 
 -- the items of a top entry, whose named terms and number are these
 skipped : (js l m : List (Item ℕ)) (g : Continuation ℕ) (es floor : List Entry) (go : List Entry → List Entry)
@@ -74,14 +81,31 @@ module _ (d : Deferred) (levels : List Level) (k : ℕ) (f : Continuation ℕ) (
   gate-is clauses =
       ap (λ l. item_gate clauses levels (without_marks l) (joined_continuation d (before (RemovalItem k ∷ []) f)) (true_stack d levels es)) items-are
 
-  goal-loads : (goal : Term) (n : ℕ) (l : List (Item ℕ)) → items ≡ GoalItem goal n ∷ l
-      → RestsPrivately d levels (deferred_entries k f es)
-      (bare_stack levels (PlainEntry (before (GoalItem goal n ∷ RemovalItem (suc k) ∷ []) f) ∷ es))
-  goal-loads goal n l e = record {
-    left = PlainEntry (before (GoalItem goal n ∷ RemovalItem (suc k) ∷ []) f) ∷ es;
+  -- goals in one scope, before what is deferred after them
+  abbrev loaded : ℕ → List Term → List (Item ℕ)
+  loaded n goals = goals_at n goals ++ RemovalItem (k + length goals) ∷ []
+
+  loaded-before : (n : ℕ) (goals : List Term) → loaded n goals ++ f.items ≡ goals_at n goals ++ RemovalItem (k + length goals) ∷ f.items
+  loaded-before n goals = append_assoc (goals_at n goals) (RemovalItem (k + length goals) ∷ []) f.items
+
+  items-past : (n : ℕ) (goals : List Term) (l : List (Item ℕ)) → items ≡ goals_at n goals ++ l
+      → joined_items now (RemovalItem (k + length goals) ∷ f.items) ≡ l
+  items-past n goals l e =
+      ap (λ j. drop (k + length goals) now ++ joined_items now j) h.are_own.0
+      ∙ append-nil (drop (k + length goals) now) ∙ past-goals n goals k now l (h.deferred ∙ e)
+
+  goals-load : (n : ℕ) (goals : List Term) (l : List (Item ℕ)) → items ≡ goals_at n goals ++ l
+      → RestsPrivately d levels (deferred_entries k f es) (bare_stack levels (PlainEntry (before (loaded n goals) f) ∷ es))
+  goals-load n goals l e = record {
+    left = PlainEntry (before (loaded n goals) f) ∷ es;
     entries = refl;
-    are_own = h.are_own;
-    rest = ap stepped (items-are ∙ e ∙ ap (λ j. GoalItem goal n ∷ j) (sym (items-after (GoalItem goal n) l e)));
+    are_own = (
+      subst (AreOwnItems (length levels)) (sym (loaded-before n goals))
+          (goals-own (length levels) n goals (RemovalItem (k + length goals) ∷ f.items) h.are_own.0),
+      h.are_own.1,
+    );
+    rest = ap stepped (items-are ∙ e ∙ ap (λ j. goals_at n goals ++ j) (sym (items-past n goals l e))
+        ∙ sym (goals-joined now n goals (RemovalItem (k + length goals) ∷ f.items)) ∙ ap (joined_items now) (sym (loaded-before n goals)));
   }
 
   mark-skips : (n : ℕ) (l : List (Item ℕ)) → items ≡ CatchMark n ∷ l
@@ -135,7 +159,7 @@ pub removals_are_gates : RemovalsAreGates
 removals_are_gates clauses d levels k number f es items h = gate-is d levels k f es (RemovalItem number ∷ items) h clauses
 
 pub goals_load : GoalsLoad
-goals_load d levels k n goal f es items h = goal-loads d levels k f es (GoalItem goal n ∷ items) h goal n items refl
+goals_load d levels k n goals f es items h = goals-load d levels k f es (goals_at n goals ++ items) h n goals items refl
 
 pub catch_marks_skip : CatchMarksSkip
 catch_marks_skip d levels k n f es items h = mark-skips d levels k f es (CatchMark n ∷ items) h n items refl

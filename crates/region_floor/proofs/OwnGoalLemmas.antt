@@ -52,7 +52,7 @@ inferred clauses d levels t o e g bare k =
     }
 
 -- own items
-goals-own : (n h : ℕ) (gs : List Term) (items : List (Item ℕ)) → AreOwnItems n items → AreOwnItems n (goals_at h gs ++ items)
+pub goals-own : (n h : ℕ) (gs : List Term) (items : List (Item ℕ)) → AreOwnItems n items → AreOwnItems n (goals_at h gs ++ items)
 goals-own n h [] items o = o
 goals-own n h (g ∷ gs) items o = goals-own n h gs items o
 

@@ -1,10 +1,10 @@
 -- A region's stack stands for the private run after each inference, and tells where the run stops.
-use Rattle.std.proofs.Common.{◌≡◌, ℕ, zero, suc, ◌-◌, ◌<◌, ◌≤◌, ◌==◌, Bool, true, false, cond, List, [], ◌∷◌, map, length, Option, Some, None, refl, sym, ap, ◌∙◌, subst, arith}
+use Rattle.std.proofs.Common.{◌≡◌, ℕ, zero, suc, ◌+◌, ◌-◌, ◌<◌, ◌≤◌, ◌==◌, Bool, true, false, cond, List, [], ◌∷◌, ◌++◌, map, length, Option, Some, None, refl, sym, ap, ◌∙◌, subst, arith}
 use Rattle.au_term.specs.Term.{Term}
 use Rattle.au_model.specs.Terms.Each.{Each}
 use Rattle.au_model.specs.Terms.Substitutions.{Substitution, resolve}
 use Rattle.run_model.specs.Goals.Outcomes.{Solution, Solutions, Ball, HaltNumber, ControlForm, CutToScope, Outcome, Replies, Controls, AskWorld}
-use Rattle.run_model.specs.Machine.Items.{Item, GoalItem, CatchMark, CollectMark, RemovalItem, Continuation, with_items, without_marks, before, resolve_item, resolve_named, resolve_continuation}
+use Rattle.run_model.specs.Machine.Items.{Item, GoalItem, CatchMark, CollectMark, RemovalItem, Continuation, with_items, without_marks, goals_at, before, resolve_item, resolve_named, resolve_continuation}
 use Rattle.run_model.specs.Machine.Entries.{Entry, PlainEntry, EndEntry}
 use Rattle.run_model.specs.Machine.FreeSteps.{take_free_steps}
 use Rattle.run_model.specs.Machine.Heights.{after_reply, after_control}
@@ -178,15 +178,15 @@ module _ (r : RegionRun) (k : ℕ) where
       gate_is = g;
     }
 
-  pub goal_loaded : (n h : ℕ) (goal : Term) (f : Continuation ℕ) (es : List Entry) (items : List (Item ℕ))
-      → TakesDeferred r k n f es (GoalItem goal h ∷ items)
-      → StandsAfter r k (PlainEntry (before (GoalItem goal h ∷ RemovalItem (suc n) ∷ []) f) ∷ es)
-  goal_loaded n h goal f es items t =
-      let p = deferred_top n f es (GoalItem goal h ∷ items) t in
-      let load : Continuation ℕ = before (GoalItem goal h ∷ RemovalItem (suc n) ∷ []) f in
+  pub goals_loaded : (n h : ℕ) (goals : List Term) (f : Continuation ℕ) (es : List Entry) (items : List (Item ℕ))
+      → TakesDeferred r k n f es (goals_at h goals ++ items)
+      → StandsAfter r k (PlainEntry (before (goals_at h goals ++ RemovalItem (n + length goals) ∷ []) f) ∷ es)
+  goals_loaded n h goals f es items t =
+      let p = deferred_top n f es (goals_at h goals ++ items) t in
+      let load : Continuation ℕ = before (goals_at h goals ++ RemovalItem (n + length goals) ∷ []) f in
       subst (λ l. StandsAfter r k (PlainEntry load ∷ l)) (sym p.entries)
       (rested (deferred_entries n f p.below) (bare_stack r.levels (PlainEntry load ∷ p.below)) p.run
-      (goals_load r.deferred r.levels n h goal f p.below items (has_deferred n f es (GoalItem goal h ∷ items) t)))
+      (goals_load r.deferred r.levels n h goals f p.below items (has_deferred n f es (goals_at h goals ++ items) t)))
 
   pub mark_skipped : (n h : ℕ) (f : Continuation ℕ) (es : List Entry) (items : List (Item ℕ)) → TakesDeferred r k n f es (CatchMark h ∷ items)
       → StandsAfter r k (deferred_entries (suc n) f es)

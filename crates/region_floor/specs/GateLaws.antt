@@ -1,10 +1,10 @@
 -- What is on top of a region's own entries tells the gate of what they stand for, or what is to be loaded next.
-use Rattle.std.specs.Prelude.{◌≡◌, ℕ, suc, ◌<◌, true, List, [], ◌∷◌, Some, None, map, drop, length}
+use Rattle.std.specs.Prelude.{◌≡◌, ℕ, suc, ◌+◌, ◌<◌, true, List, [], ◌∷◌, ◌++◌, Some, None, map, drop, length}
 use Rattle.au_term.specs.Term.{Term}
 use Rattle.run_model.specs.Programs.Clauses.{Clause}
 use Rattle.run_model.specs.Goals.Outcomes.{HaltNumber, CutToScope, Replies, Controls, AskWorld}
 use Rattle.run_model.specs.Goals.GoalOutcomes.{outcome_of}
-use Rattle.run_model.specs.Machine.Items.{Item, GoalItem, CatchMark, CollectMark, RemovalItem, Continuation, before}
+use Rattle.run_model.specs.Machine.Items.{Item, CatchMark, CollectMark, RemovalItem, Continuation, goals_at, before}
 use Rattle.run_model.specs.Machine.Entries.{Entry, PlainEntry}
 use Rattle.tree_model.specs.Nodes.{CutGate, WorldGate}
 use Rattle.tree_model.specs.Levels.{Level}
@@ -55,13 +55,13 @@ RemovalsAreGates =
     → HasDeferred d levels k f es (RemovalItem number ∷ items)
     → gate_on clauses levels (true_stack d levels (deferred_entries k f es)) ≡ Some WorldGate
 
--- a goal, which is loaded
+-- goals in one scope, which are loaded
 abbrev pub GoalsLoad : Type 0
 GoalsLoad =
-    (d : Deferred) (levels : List Level) (k h : ℕ) (goal : Term) (f : Continuation ℕ) (es : List Entry) (items : List (Item ℕ))
-    → HasDeferred d levels k f es (GoalItem goal h ∷ items)
+    (d : Deferred) (levels : List Level) (k h : ℕ) (goals : List Term) (f : Continuation ℕ) (es : List Entry) (items : List (Item ℕ))
+    → HasDeferred d levels k f es (goals_at h goals ++ items)
     → RestsPrivately d levels (deferred_entries k f es)
-    (bare_stack levels (PlainEntry (before (GoalItem goal h ∷ RemovalItem (suc k) ∷ []) f) ∷ es))
+    (bare_stack levels (PlainEntry (before (goals_at h goals ++ RemovalItem (k + length goals) ∷ []) f) ∷ es))
 
 -- the end of what a catch guards, which is skipped
 abbrev pub CatchMarksSkip : Type 0

@@ -1,5 +1,5 @@
 -- A region over a bare floor, from the start of a private run to its stop.
-use Rattle.std.specs.Prelude.{◌≡◌, ℕ, suc, ◌-◌, ◌<◌, true, List, [], ◌∷◌, Option, Some, None, map, drop, length}
+use Rattle.std.specs.Prelude.{◌≡◌, ℕ, suc, ◌+◌, ◌-◌, ◌<◌, true, List, [], ◌∷◌, ◌++◌, Option, Some, None, map, drop, length}
 use Rattle.au_term.specs.Term.{Term}
 use Rattle.au_model.specs.Terms.Copies.{copied}
 use Rattle.au_model.specs.Terms.Each.{Each}
@@ -7,7 +7,7 @@ use Rattle.au_model.specs.Terms.Substitutions.{Substitution}
 use Rattle.run_model.specs.Programs.Clauses.{Clause}
 use Rattle.run_model.specs.Goals.Outcomes.{Solution, Solutions, Ball, HaltNumber, ControlForm, CutToScope, Outcome, Replies, Controls, AskWorld}
 use Rattle.run_model.specs.Goals.GoalOutcomes.{outcome_of}
-use Rattle.run_model.specs.Machine.Items.{Item, GoalItem, CatchMark, CollectMark, RemovalItem, Continuation, before, resolve_continuation}
+use Rattle.run_model.specs.Machine.Items.{Item, CatchMark, CollectMark, RemovalItem, Continuation, goals_at, before, resolve_continuation}
 use Rattle.run_model.specs.Machine.Entries.{Entry, PlainEntry, EndEntry}
 use Rattle.run_model.specs.Machine.FreeSteps.{take_free_steps}
 use Rattle.run_model.specs.Machine.Heights.{after_reply, after_control}
@@ -138,8 +138,9 @@ pub record TakesDeferred (r : RegionRun) (k n : ℕ) (f : Continuation ℕ) (es 
 
 abbrev pub GoalsLoaded : Type 0
 GoalsLoaded =
-    (r : RegionRun) (k n h : ℕ) (goal : Term) (f : Continuation ℕ) (es : List Entry) (items : List (Item ℕ))
-    → TakesDeferred r k n f es (GoalItem goal h ∷ items) → StandsAfter r k (PlainEntry (before (GoalItem goal h ∷ RemovalItem (suc n) ∷ []) f) ∷ es)
+    (r : RegionRun) (k n h : ℕ) (goals : List Term) (f : Continuation ℕ) (es : List Entry) (items : List (Item ℕ))
+    → TakesDeferred r k n f es (goals_at h goals ++ items)
+    → StandsAfter r k (PlainEntry (before (goals_at h goals ++ RemovalItem (n + length goals) ∷ []) f) ∷ es)
 
 abbrev pub MarksSkipped : Type 0
 MarksSkipped =

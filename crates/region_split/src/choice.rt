@@ -1,6 +1,6 @@
 //! Choice points.
 ghost use Rattle.std.specs.Prelude.{◌≡◌, MatchOption, OnOk, OnErr, IsTrue, ◌↔◌};
-ghost use Rattle.region_split.specs.ChoicePoints.{HaveNoClause, HaveNoSolution, HaveSolution, IsCollecting, with_found};
+ghost use Rattle.region_split.specs.ChoicePoints.{HaveNoClause, HaveNoSolution, HaveSolution, IsCatching, IsCollecting, with_found};
 
 use crate::frame::Position;
 use crate::results::Results;
@@ -110,6 +110,17 @@ impl Alternatives {
 }
 
 impl ChoicePoint {
+    /// Whether it is a catch.
+    #[inline]
+    pub(crate) fn is_catch(&self) -> bool
+        ensures { IsTrue result ↔ IsCatching self.now.alternatives }
+    {
+        match &self.alternatives {
+            Alternatives::Catch { .. } => true,
+            _ => false,
+        }
+    }
+
     /// Whether it is a findall.
     #[inline]
     pub(crate) fn is_findall(&self) -> bool

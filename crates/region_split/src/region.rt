@@ -9,7 +9,7 @@ ghost use Rattle.clause_compile.specs.AtomNumbers.{name_at};
 ghost use Rattle.region_split.specs.CompoundGoals.{HasNoCompoundFirst, IsCompoundFirst};
 ghost use Rattle.cell_store.specs.UnificationSteps.{IsUnified, OnlyBinds};
 ghost use Rattle.au_model.specs.Terms.Named.{NamedTerm};
-ghost use Rattle.region_split.specs.ChoicePoints.{frames_kept, height_of_cut};
+ghost use Rattle.region_split.specs.ChoicePoints.{frames_kept, height_of_cut, IsCatchAt};
 ghost use Rattle.region_split.specs.QueryEnds.{AreEndsAtFloor, AreEndsOldest, MayComeOver};
 ghost use Rattle.region_split.specs.Regions.{entries_of, heights_of, items_here, IsLeftAt, IsPositionIn, AreAlternativesIn};
 ghost use Rattle.region_split.specs.StackOperations.{new_region, KeepsPositions, AddsFrame, AddsChoice, CutsTo, TakesNewest, DropsNewest, HasNoClauseOnTop, TakesClause, HasNoSolutionOnTop, TakesSolution, HasFindallAt, AddsResult, StaysStanding};
@@ -87,6 +87,16 @@ impl Region {
     {
         match self.choices.get(over) {
             Some(choice) => choice.is_findall(),
+            None => false,
+        }
+    }
+
+    /// Whether there is a catch over so many choice points.
+    pub fn is_catch(&self, over: usize) -> bool
+        ensures { IsTrue result ↔ IsCatchAt self.now.choices over }
+    {
+        match self.choices.get(over) {
+            Some(choice) => choice.is_catch(),
             None => false,
         }
     }

@@ -5,7 +5,9 @@ use Rattle.au_model.specs.Terms.Named.{NamedTerm}
 use Rattle.region_split.specs.Regions.{RegionView}
 use Rattle.region_split.specs.declared.frame.FrameItem.{FrameItem}
 use Rattle.region_split.specs.declared.frame.Position.{Position}
-use Rattle.region_control.specs.Ahead.{IsGoalThere}
+use Rattle.region_control.specs.Ahead.{IsGoalThere, LiesAhead}
+use Rattle.region_control.specs.declared.ahead.Ahead.{Ahead}
+use Rattle.region_control.specs.declared.ahead.Ahead.TheVariants.{Goal}
 use Rattle.region_control.specs.declared.control.GoalPlace.{GoalPlace}
 use Rattle.region_control.specs.declared.replies.AfterGoal.{AfterGoal}
 use Rattle.region_control.specs.declared.replies.AfterGoal.TheVariants.{At, Failed, AsksWorld}
@@ -16,7 +18,7 @@ use Rattle.task_region.specs.CutGoals.{IsCutCall}
 use Rattle.task_region.specs.TaskViews.{TaskView, carried}
 use Rattle.task_region.specs.TaskStandings.{StandsOnRun, IsUnderWay}
 use Rattle.task_region.specs.TaskStops.{SameTask}
-use Rattle.task_region.specs.TaskRounds.{LooksAhead, TakesGoalNext, TakesOwnGoal, PassesRound}
+use Rattle.task_region.specs.TaskRounds.{HasLooked, LooksAhead, TakesGoalNext, TakesOwnGoal, PassesRound}
 use Rattle.task_region.specs.declared.ahead.TaskAhead.TheVariants as ahead
 use Rattle.task_region.specs.declared.rounds.TaskRound.{TaskRound}
 use Rattle.task_region.specs.declared.rounds.TaskRound.TheVariants.{GoesOn}
@@ -93,3 +95,12 @@ module _ (t : TaskView) (new : RegionView) (next : Option Position) (n : TakesNo
     there = p.there;
     same = same_twice t moved (changed_to moved last) same p.same;
   }
+
+  -- and it was looked ahead from there
+  pub looked : IsUnderWay t → (r1 : RegionView) (found : Ahead) → LiesAhead new r1 next found → r1.text ≡ new.text → r1.store.floor ≡ new.store.floor → HasLooked moved r1 found
+  looked way r1 found l text floor = record { way = under_way_still way; ahead = l; text = text; start = floor }
+
+  pub goal_round_from : (r1 last : RegionView) (item : FrameItem) (g : GoalPlace) (round : TaskRound) → HasLooked moved r1 (Goal item g)
+      → TakesGoalNext (changed_to moved r1) (changed_to moved last) item g true round → PassesRound t (changed_to t last) true round
+  goal_round_from r1 last item g round h takes =
+      round_from last true round (goal_round moved r1 last item g true round (goal_ahead moved r1 h.text h.start item g h.ahead) takes)

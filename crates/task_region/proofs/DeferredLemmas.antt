@@ -1,10 +1,11 @@
 -- What is deferred is taken up, or stops the run.
-use Rattle.std.proofs.Common.{◌≡◌, ℕ, zero, suc, ◌+◌, ◌-◌, ◌<◌, ◌≤◌, List, [], ◌∷◌, length, map, drop, Some, None, refl, sym, ap, ap₂, ◌∙◌, subst, arith}
+use Rattle.std.proofs.Common.{◌≡◌, ℕ, zero, suc, ◌+◌, ◌-◌, ◌<◌, ◌≤◌, List, [], ◌∷◌, ◌++◌, length, map, drop, Some, None, refl, sym, ap, ap₂, ◌∙◌, subst, arith}
 use Rattle.std.specs.List.{slice_get}
+use Rattle.std.proofs.lemmas.List.{length-map}
 use Rattle.au_term.specs.Term.{Term}
 use Rattle.au_model.specs.Terms.Named.{NamedTerm}
 use Rattle.au_model.specs.Terms.Substitutions.{resolve}
-use Rattle.run_model.specs.Machine.Items.{Item, GoalItem, CatchMark, CollectMark, RemovalItem, Continuation, before, resolve_item}
+use Rattle.run_model.specs.Machine.Items.{Item, GoalItem, CatchMark, CollectMark, RemovalItem, Continuation, before, goals_at, resolve_item}
 use Rattle.run_model.specs.Machine.Entries.{Entry, PlainEntry}
 use Rattle.tree_model.specs.Nodes.{WorldGate}
 use Rattle.region_split.specs.ChoicePoints.{Standing}
@@ -17,13 +18,13 @@ use Rattle.region_floor.specs.BareFloors.{AreOwn}
 use Rattle.region_floor.specs.GateLaws.{deferred_entries}
 use Rattle.region_floor.specs.RegionRuns.{RegionRun, StandsAfter, StandsAtGate, ComesToResult, TakesDeferred as TakesNext}
 use Rattle.region_floor.proofs.JoinedLemmas.{bound_now}
-use Rattle.region_floor.proofs.RegionRunLemmas.{goal_loaded, mark_skipped, answer_stops, removal_stops, result_comes}
+use Rattle.region_floor.proofs.RegionRunLemmas.{goals_loaded, mark_skipped, answer_stops, removal_stops, result_comes}
 use Rattle.region_floor.proofs.RunLemmas.{tops_are_own}
-use Rattle.task_region.specs.DeferredItems.{IsDeferredOver, IsMarkAt, SkipsMarks}
-use Rattle.task_region.specs.GoalLoads.{nothing_here, LeavesItems, LoadsGoal, rest_items, ComesToDeferred, TakesUpDeferred}
+use Rattle.task_region.specs.DeferredItems.{IsDeferredOver, IsMarkAt, SkipsMarks, AreGoalsFrom, FindsGoals}
+use Rattle.task_region.specs.GoalLoads.{nothing_here, LeavesItems, LoadsGoals, rest_items, ComesToDeferred, TakesUpDeferred}
 use Rattle.task_region.specs.declared.loading.AfterDeferred.TheVariants.{Goal, Answer, Result, Removal}
 use Rattle.task_region.specs.TaskViews.{carried, position_stack, deferred_stack, goal_stack}
-use Rattle.task_region.proofs.FoundLemmas.{item_holds, items_from, nothing_from}
+use Rattle.task_region.proofs.FoundLemmas.{item_holds, items_from, nothing_from, goals_now, goals_resolved}
 
 module _ (r : RegionRun) (k : ℕ) (named : List NamedTerm) (old : RegionView) (number : ℕ) (after : Position) (w : ComesToDeferred r k named old number after) where
   abbrev all : List NamedTerm
@@ -61,19 +62,21 @@ module _ (r : RegionRun) (k : ℕ) (named : List NamedTerm) (old : RegionView) (
   scoped : (i : Item ℕ) → slice_get r.deferred.items number ≡ Some i → IsDeferredOver old.store.now.next (length r.levels) i
   scoped i e = item_holds (IsDeferredOver old.store.now.next (length r.levels)) r.deferred.items number i w.scoped e
 
-  abbrev with_goal : Term → ℕ → ℕ → Continuation ℕ → List Entry
-  with_goal goal h n g = PlainEntry (before (GoalItem goal h ∷ RemovalItem n ∷ []) g) ∷ es
+  abbrev with_goals : List (Item ℕ) → ℕ → Continuation ℕ → List Entry
+  with_goals goals n g = PlainEntry (before (goals ++ RemovalItem n ∷ []) g) ∷ es
 
-  goal_taken : (new : RegionView) (item : FrameItem) (g : GoalPlace) (term : Term) (cut : ℕ) → slice_get r.deferred.items number ≡ Some (GoalItem term cut) → LoadsGoal old new term cut (number + 1) item g
-      → StandsAfter r k (goal_stack named r.deferred.items new item g)
-  goal_taken new item g term cut e l =
-      let goal = resolve old.store.now.bound term in
-      let one : number + 1 ≡ suc number = omega arith in
-      let height = w.over.below cut (scoped (GoalItem term cut) e).1 in
+  goals_taken : (new : RegionView) (item : FrameItem) (g : GoalPlace) (term : Term) (more : List Term) (cut rest : ℕ) → AreGoalsFrom r.deferred.items cut number (term ∷ more)
+      → rest ≡ number + 1 + length more → LoadsGoals old new (term ∷ more) cut rest item g → StandsAfter r k (goal_stack named r.deferred.items new item g)
+  goals_taken new item g term more cut rest are e l =
+      let s = old.store.now.bound in
+      let goals = map (resolve s) (term ∷ more) in
+      let many : rest ≡ number + length goals = let same = length-map more (resolve s) in omega (arith, e, same) in
+      let height = w.over.below cut (scoped (GoalItem term cut) are.0).1 in
       let left = ap₂ (λ (x : Entry) xs. x ∷ xs) (l.entry all) (ap (λ (st : Standing). st.entries) (l.stands all)) in
+      let loaded = ap (λ h. map (resolve_item s) (goals_at h (term ∷ more))) height ∙ goals_resolved s cut (term ∷ more) in
       subst (StandsAfter r k)
-      (sym (left ∙ (ap₂ (λ h n. with_goal goal h n (nothing_here all old)) height one ∙ ap (with_goal goal cut (suc number)) f_is)))
-      (goal_loaded r k number cut goal f es _ (takes_item (GoalItem term cut) e))
+      (sym (left ∙ (ap₂ (λ gs n. with_goals gs n (nothing_here all old)) loaded many ∙ ap (with_goals (goals_at cut goals) (number + length goals)) f_is)))
+      (goals_loaded r k number cut goals f es _ (takes _ (goals_now s r.deferred.items cut number (term ∷ more) are)))
 
   mark_passed : (h : ℕ) → slice_get r.deferred.items number ≡ Some (CatchMark h) → ComesToDeferred r k named old (suc number) after
   mark_passed h e = record { named_are = w.named_are; over = w.over; scoped = w.scoped; stands = mark_skipped r k number h f es _ (takes_item (CatchMark h) e) }
@@ -149,11 +152,12 @@ module _ (old : RegionView) (items : List (Item ℕ)) (start reached : ℕ) (ski
     next = refl;
   }
 
-  pub takes_goal : (term : Term) (cut : ℕ) (new : RegionView) (item : FrameItem) (g : GoalPlace) → slice_get items reached ≡ Some (GoalItem term cut)
-      → LoadsGoal old new term cut (reached + 1) item g → TakesUpDeferred old new items start (Goal item g)
-  takes_goal term cut new item g is l = record {
+  pub takes_goals : (term : Term) (more : List Term) (cut rest : ℕ) (new : RegionView) (item : FrameItem) (g : GoalPlace) → slice_get items reached ≡ Some (GoalItem term cut)
+      → FindsGoals items cut (reached + 1) more rest → LoadsGoals old new (term ∷ more) cut rest item g → TakesUpDeferred old new items start (Goal item g)
+  takes_goals term more cut rest new item g is finds l = record {
     taken = λ r k named after e w.
-        goal_taken r k named old reached after (come r k named after e w) new item g term cut (subst (λ is. slice_get is reached ≡ Some (GoalItem term cut)) (sym e) is) l;
+        let are : AreGoalsFrom items cut reached (term ∷ more) = (is, subst (λ n. AreGoalsFrom items cut n more) (omega arith) finds.are) in
+        goals_taken r k named old reached after (come r k named after e w) new item g term more cut rest (subst (λ is. AreGoalsFrom is cut reached (term ∷ more)) (sym e) are) finds.rest_is l;
     there = l.there;
     stands = l.stands;
     choices = l.choices;

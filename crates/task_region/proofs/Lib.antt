@@ -20,3 +20,4 @@ mod BindingLemmas
 pub mod BranchLoadLemmas
 mod LoadableLemmas
 pub mod AtPlaceLemmas
+pub mod CatchLemmas

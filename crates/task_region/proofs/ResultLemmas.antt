@@ -72,15 +72,15 @@ nothing_over_floor named r levels below ends are_own is =
 
 -- what a task has of its own under what is next
 module _ (t : TaskView) (run : HasOwnRun t) where
-  abbrev all : List NamedTerm
+  abbrev pub all : List NamedTerm
   all = carried run.named t.deferred
 
-  record Under : Type 0 where
-    own : List Entry
-    are_own : AreOwn (length run.run.levels) own
-    entries : entries_of all t.region ≡ bare_stack run.run.levels own
+  pub record Under : Type 0 where
+    pub own : List Entry
+    pub are_own : AreOwn (length run.run.levels) own
+    pub entries : entries_of all t.region ≡ bare_stack run.run.levels own
 
-  under : (o : Option Position) → t.next ≡ o → IsSome o → Under
+  pub under : (o : Option Position) → t.next ≡ o → IsSome o → Under
   under None e some = absurd (cc some)
   under (Some p) e some =
       let st = run.stands.stands in

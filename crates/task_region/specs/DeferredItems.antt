@@ -1,6 +1,6 @@
 -- The items that a task's alternative had when it was handed out.
-use Rattle.std.specs.Prelude.{◌≡◌, ℕ, ◌≤◌, ◌<◌, List, Some, slice_get}
-use Rattle.au_term.specs.Term.{var_bound}
+use Rattle.std.specs.Prelude.{◌≡◌, ℕ, suc, ◌+◌, ◌≤◌, ◌<◌, List, [], ◌∷◌, length, Some, slice_get}
+use Rattle.au_term.specs.Term.{Term, var_bound}
 use Rattle.run_model.specs.Machine.Items.{Item, GoalItem, CatchMark, CollectMark, RemovalItem}
 use Rattle.task_region.specs.declared.deferred.DeferredItem.{DeferredItem}
 use Rattle.task_region.specs.declared.deferred.DeferredItem.TheVariants.{Goal, CatchEnd, Collect, Removal}
@@ -28,3 +28,13 @@ pub record SkipsMarks (items : List (Item ℕ)) (start reached : ℕ) : Type 0 w
   pub from : start ≤ reached
   pub marks : (number : ℕ) → start ≤ number → number < reached → IsMarkAt items number
   pub last : IsMarkAt items reached → ⊥
+
+-- these goals stand from a number on, in one scope
+abbrev pub AreGoalsFrom : List (Item ℕ) → ℕ → ℕ → List Term → Type 0
+AreGoalsFrom items cut number [] = Unit {0}
+AreGoalsFrom items cut number (t ∷ goals) = (slice_get items number ≡ Some (GoalItem t cut)) × AreGoalsFrom items cut (suc number) goals
+
+-- and this number comes after them
+pub record FindsGoals (items : List (Item ℕ)) (cut number : ℕ) (goals : List Term) (rest : ℕ) : Type 0 where
+  pub are : AreGoalsFrom items cut number goals
+  pub rest_is : rest ≡ number + length goals

@@ -1,14 +1,13 @@
 -- What is deferred and comes next.
-use Rattle.std.specs.Prelude.{◌≡◌, ℕ, List, [], ◌∷◌, length, Some, None, slice_get}
+use Rattle.std.specs.Prelude.{◌≡◌, ℕ, List, [], ◌∷◌, ◌++◌, length, Some, None, slice_get}
 use Rattle.au_term.specs.Term.{Term}
 use Rattle.au_model.specs.Terms.Each.{Each}
 use Rattle.au_model.specs.Terms.Named.{NamedTerm}
-use Rattle.au_model.specs.Terms.Substitutions.{resolve}
-use Rattle.run_model.specs.Machine.Items.{Item, GoalItem, CollectMark, RemovalItem, Continuation, before, resolve_continuation}
+use Rattle.run_model.specs.Machine.Items.{Item, CollectMark, RemovalItem, Continuation, before, resolve_continuation}
 use Rattle.run_model.specs.Machine.Entries.{PlainEntry}
 use Rattle.tree_model.specs.Nodes.{WorldGate}
-use Rattle.region_split.specs.ChoicePoints.{height_of_cut}
 use Rattle.region_split.specs.Regions.{RegionView, standing, entries_of, heights_of, position_entry, IsPositionIn}
+use Rattle.region_split.specs.StackOperations.{goals_here}
 use Rattle.region_split.specs.declared.frame.FrameItem.{FrameItem}
 use Rattle.region_split.specs.declared.frame.Position.{Position}
 use Rattle.region_control.specs.Ahead.{IsGoalThere, goal_entry}
@@ -35,17 +34,17 @@ pub record LeavesItems (old new : RegionView) (items : List ℕ → List (Item �
   pub store : new.store ≡ old.store
   pub next : new.store.now.next ≡ old.store.now.next
 
--- what is deferred from a number on, and before that a goal as it is now
+-- what is deferred from a number on, and before that goals as they are now
 abbrev pub rest_items : ℕ → List ℕ → List (Item ℕ)
 rest_items number heights = RemovalItem number ∷ []
 
-abbrev pub loaded_items : RegionView → Term → ℕ → ℕ → List ℕ → List (Item ℕ)
-loaded_items r goal cut number heights = GoalItem (resolve r.store.now.bound goal) (height_of_cut heights cut) ∷ RemovalItem number ∷ []
+abbrev pub loaded_items : RegionView → List Term → ℕ → ℕ → List ℕ → List (Item ℕ)
+loaded_items r goals cut number heights = goals_here r goals cut heights ++ RemovalItem number ∷ []
 
--- a goal was copied in, and stands before what is deferred from a number on
-pub record LoadsGoal (old new : RegionView) (goal : Term) (cut number : ℕ) (item : FrameItem) (g : GoalPlace) : Type 0 where
+-- goals of one scope were copied in, the first of them to be taken, and stand before what is deferred from a number on
+pub record LoadsGoals (old new : RegionView) (goals : List Term) (cut number : ℕ) (item : FrameItem) (g : GoalPlace) : Type 0 where
   pub there : IsGoalThere new item g
-  pub entry : (named : List NamedTerm) → goal_entry named new item g ≡ PlainEntry (before (loaded_items old goal cut number (heights_of named old)) (nothing_here named old))
+  pub entry : (named : List NamedTerm) → goal_entry named new item g ≡ PlainEntry (before (loaded_items old goals cut number (heights_of named old)) (nothing_here named old))
   pub stands : (named : List NamedTerm) → standing named new ≡ standing named old
   pub choices : new.choices ≡ old.choices
   pub text : new.text ≡ old.text
@@ -70,7 +69,7 @@ pub record ComesToDeferred (r : RegionRun) (k : ℕ) (named : List NamedTerm) (h
   pub scoped : Each (IsDeferredOver here.store.now.next (length r.levels)) r.deferred.items
   pub stands : StandsAfter r k (deferred_stack named r.deferred.items here number after)
 
--- a goal was loaded; or the run has come to a number from which on nothing is deferred, or to a result for a findall of the branch, or
+-- goals were loaded; or the run has come to a number from which on nothing is deferred, or to a result for a findall of the branch, or
 -- to a removal
 abbrev pub DeferredTaken : RegionRun → ℕ → List NamedTerm → RegionView → RegionView → Position → AfterDeferred → Type 0
 DeferredTaken r k named old new after (Goal item g) = StandsAfter r k (goal_stack named r.deferred.items new item g)

@@ -13,3 +13,4 @@ pub mod PlacesUp
 pub mod MadeInTurn
 pub mod ScopeHeights
 pub mod TaskLoads
+pub mod TaskCatches

@@ -7,7 +7,8 @@ use Rattle.region_split.specs.Regions.{RegionView}
 use Rattle.region_split.specs.ClauseTrials.{IsOptionalPosition}
 use Rattle.region_split.specs.declared.frame.FrameItem.{FrameItem}
 use Rattle.region_split.specs.declared.frame.Position.{Position}
-use Rattle.region_control.specs.Ahead.{IsGoalThere}
+use Rattle.region_control.specs.Ahead.{IsGoalThere, LiesAhead}
+use Rattle.region_control.specs.declared.ahead.Ahead.{Ahead}
 use Rattle.region_control.specs.declared.control.GoalPlace.{GoalPlace}
 use Rattle.region_control.specs.declared.replies.AfterGoal.{AfterGoal}
 use Rattle.region_run.specs.Inferences.{InfersItem}
@@ -15,7 +16,7 @@ use Rattle.region_floor.specs.RegionRuns.{RegionRun, StandsAfter}
 use Rattle.task_region.specs.CutGoals.{IsCutItem}
 use Rattle.task_region.specs.DeferredItems.{IsDeferredOver}
 use Rattle.task_region.specs.TaskViews.{TaskView, goal_stack}
-use Rattle.task_region.specs.TaskStandings.{IsOwnRun, StandsOnRun}
+use Rattle.task_region.specs.TaskStandings.{IsOwnRun, StandsOnRun, IsUnderWay}
 use Rattle.task_region.specs.TaskStops.{IsBall, IsLimit, IsNextFor, LeavesNext, SameTask, StopsTask}
 use Rattle.task_region.specs.declared.running.TaskRan.{TaskRan}
 use Rattle.task_region.specs.declared.ahead.TaskAhead.{TaskAhead}
@@ -36,6 +37,13 @@ AheadStands r k named t (ahead.Stops stop next) = StopsTask r k named (record t 
 abbrev pub IsAheadThere : TaskView → TaskAhead → Type 0
 IsAheadThere t (ahead.Goal item g) = IsGoalThere t.region item g
 IsAheadThere t (ahead.Stops stop next) = IsStopThere t stop next × (IsLimit stop → ⊥) × (IsBall stop → ⊥)
+
+-- it was looked how a task goes on
+pub record HasLooked (t : TaskView) (new : RegionView) (found : Ahead) : Type 0 where
+  pub way : IsUnderWay t
+  pub ahead : LiesAhead t.region new t.next found
+  pub text : new.text ≡ t.region.text
+  pub start : new.store.floor ≡ t.region.store.floor
 
 pub record LooksAhead (old new : TaskView) (a : TaskAhead) : Type 0 where
   pub stands : (r : RegionRun) (k : ℕ) (named : List NamedTerm) → StandsOnRun r k named old → AheadStands r k named new a

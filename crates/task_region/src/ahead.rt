@@ -1,14 +1,14 @@
 //! What lies ahead of a task.
-ghost use Rattle.std.specs.Prelude.{IfOk, None};
-ghost use Rattle.task_region.specs.TaskStandings.{IsUnderWay};
+ghost use Rattle.std.specs.Prelude.{IfOk, Option, None};
+ghost use Rattle.region_split.specs.Regions.{RegionView};
 ghost use Rattle.task_region.specs.TaskViews.{view_of_task};
-ghost use Rattle.task_region.specs.TaskRounds.{LooksAhead};
+ghost use Rattle.task_region.specs.TaskRounds.{HasLooked, LooksAhead};
 
 use crate::loading::{AfterDeferred, leave_rest, take_deferred};
 use crate::running::TaskStop;
 use crate::start::TaskStart;
 use au_term::NoMemory;
-use region_control::{Ahead, GoalPlace, look_ahead};
+use region_control::{Ahead, GoalPlace};
 use region_split::{FrameItem, Position, Region};
 use std::alloc::Global;
 
@@ -21,18 +21,17 @@ pub(crate) enum TaskAhead {
     Stops(TaskStop, Option<Position>),
 }
 
-/// Goes on as far as that costs no inference, and takes up what is deferred where that comes next.
+/// What was found ahead of a task; what is deferred is taken up where that comes next.
 pub(crate) fn task_ahead(
     region: &mut Region,
     alloc: Global,
     task: &TaskStart,
-    start: Option<Position>,
+    found: Ahead,
 ) -> Result<TaskAhead, NoMemory>
-    requires { IsUnderWay (view_of_task region.old task.now start) }
-    ensures { IfOk result (LooksAhead (view_of_task region.old task.now start) (view_of_task region.new task.now None)) }
+    requires { (old : RegionView) × (start : Option Position) × HasLooked (view_of_task old task.now start) region.old found }
+    ensures { (old : RegionView) (start : Option Position) → HasLooked (view_of_task old task.now start) region.old found → IfOk result (LooksAhead (view_of_task old task.now start) (view_of_task region.new task.now None)) }
 {
-    let ahead = look_ahead(region, alloc, start)?;
-    let number = match ahead {
+    let number = match found {
         Ahead::Goal(item, place) => return Ok(TaskAhead::Goal(item, place)),
         Ahead::Removal(number, _) => number,
         Ahead::Answer(position) => return Ok(TaskAhead::Stops(TaskStop::Answer, Some(position))),
@@ -40,7 +39,7 @@ pub(crate) fn task_ahead(
         Ahead::AllDone => return Ok(TaskAhead::Stops(TaskStop::Empty, None)),
     };
     region.ends_are_oldest();
-    let reached = take_deferred(region, &task.deferred, number)?;
+    let reached = take_deferred(region, alloc, &task.deferred, number)?;
     match reached {
         AfterDeferred::Goal(item, place) => Ok(TaskAhead::Goal(item, place)),
         AfterDeferred::Answer(number) => {

@@ -11,6 +11,7 @@
 mod ahead;
 mod bindings;
 pub mod branch_laws;
+mod catches;
 mod cuts;
 mod deferred;
 mod floor;

@@ -1,19 +1,23 @@
 //! What is deferred and comes next.
-ghost use Rattle.std.specs.Prelude.{◌≡◌, ◌≤◌, IfOk, IsTrue, ◌↔◌, length, map};
+ghost use Rattle.std.specs.Prelude.{◌≤◌, ◌∷◌, IfOk, length, map};
 ghost use Rattle.au_model.specs.Terms.Each.{Each};
 ghost use Rattle.au_term.specs.Term.{var_bound};
-ghost use Rattle.task_region.specs.DeferredItems.{item_of, IsDeferredOver, SkipsMarks};
-ghost use Rattle.task_region.specs.GoalLoads.{LeavesItems, LoadsGoal, rest_items, TakesUpDeferred};
+ghost use Rattle.task_region.specs.DeferredItems.{FindsGoals, item_of, IsDeferredOver, SkipsMarks};
+ghost use Rattle.task_region.specs.GoalLoads.{LeavesItems, LoadsGoals, rest_items, TakesUpDeferred};
 
 use crate::deferred::DeferredItem;
 use au_term::{NoMemory, Shared};
 use region_control::GoalPlace;
 use region_split::{FrameItem, Position, Region};
+use std::alloc::Global;
+
+/// How many goals are loaded at most with the one that comes next.
+const MORE_GOALS: usize = 7;
 
 /// What comes next of what is deferred, past the ends of catches.
 #[derive(Clone, Copy, Debug)]
 pub enum AfterDeferred {
-    /// This goal, which was loaded.
+    /// This goal, which was loaded, perhaps with those that follow it.
     Goal(FrameItem, GoalPlace),
     /// Nothing is deferred from this number on: all that was left to do is done.
     Answer(u64),
@@ -26,6 +30,7 @@ pub enum AfterDeferred {
 /// Takes up what is deferred from a number on, where that comes next.
 pub fn take_deferred(
     region: &mut Region,
+    alloc: Global,
     deferred: &[DeferredItem],
     number: u64,
 ) -> Result<AfterDeferred, NoMemory>
@@ -38,7 +43,8 @@ pub fn take_deferred(
     };
     match item {
         DeferredItem::Goal { term, cut } => {
-            let (goal, place) = load_goal(region, term, *cut, number + 1)?;
+            let (more, rest) = goals_from(alloc, deferred, number + 1, *cut)?;
+            let (goal, place) = load_goals(region, term, &more, *cut, rest)?;
             Ok(AfterDeferred::Goal(goal, place))
         }
         DeferredItem::CatchEnd(_) => unreachable!(),
@@ -69,6 +75,31 @@ fn past_marks(deferred: &[DeferredItem], number: u64) -> u64
     }
 }
 
+/// The goals that are deferred from a number on in one scope, as many as are loaded with the one before them, and the
+/// number after them.
+fn goals_from(
+    alloc: Global,
+    deferred: &[DeferredItem],
+    number: u64,
+    cut: u32,
+) -> Result<(Vec<Shared>, u64), NoMemory>
+    ensures { IfOk result (λ found. FindsGoals (map item_of deferred.now) cut number found.0.items found.1) }
+{
+    let mut goals = Vec::new(alloc);
+    let mut at = number;
+    while goals.len() < MORE_GOALS {
+        let Some(DeferredItem::Goal { term, cut: scope }) = deferred.get(at as usize) else {
+            break;
+        };
+        if *scope != cut {
+            break;
+        }
+        goals.push(term.share()?)?;
+        at += 1;
+    }
+    Ok((goals, at))
+}
+
 /// Leaves what is deferred from a number on, and nothing else.
 pub(crate) fn leave_rest(region: &mut Region, number: u64) -> Result<Position, NoMemory>
     ensures leaves { IfOk result (LeavesItems region.old region.new (rest_items number)) }
@@ -78,19 +109,22 @@ pub(crate) fn leave_rest(region: &mut Region, number: u64) -> Result<Position, N
     region.push_item(FrameItem::Removal(number), scope, nothing)
 }
 
-/// Copies a goal in, and gives it with its place, before what is deferred from a number on.
-fn load_goal(
+/// Copies goals of one scope in, and gives the first with its place, before the others and what is deferred from a number on.
+fn load_goals(
     region: &mut Region,
     goal: &Shared,
+    more: &[Shared],
     cut: u32,
     number: u64,
 ) -> Result<(FrameItem, GoalPlace), NoMemory>
     requires goal { var_bound goal.now ≤ region.old.store.now.next }
+    requires more { Each (λ t. var_bound t ≤ region.old.store.now.next) more.now }
     requires cut { cut ≤ length region.old.choices }
-    ensures loads { IfOk result (λ l. LoadsGoal region.old region.new goal.now cut number l.0 l.1) }
+    ensures loads { IfOk result (λ l. LoadsGoals region.old region.new (goal.now ∷ more.now) cut number l.0 l.1) }
 {
     let nothing = region.nothing_left();
-    let after = region.push_item(FrameItem::Removal(number), cut, nothing)?;
+    let rest = region.push_item(FrameItem::Removal(number), cut, nothing)?;
+    let after = region.push_goals(more, cut, rest)?;
     let value = region.copy_in(goal)?;
     Ok((FrameItem::Goal(value), GoalPlace { cut, after }))
 }

@@ -1,12 +1,12 @@
 //! Rounds of a task, each of which takes one inference or stops.
-ghost use Rattle.std.specs.Prelude.{◌≡◌, IfOk, None, map, true};
+ghost use Rattle.std.specs.Prelude.{◌≡◌, IfOk, Option, None, map, true};
 ghost use Rattle.au_model.specs.Terms.Each.{Each};
 ghost use Rattle.region_control.specs.Ahead.{IsGoalThere};
+ghost use Rattle.region_split.specs.Regions.{RegionView};
 ghost use Rattle.task_region.specs.DeferredItems.{item_of, IsDeferredOver};
 ghost use Rattle.task_region.specs.GoalLoads.{LeavesGoal};
-ghost use Rattle.task_region.specs.TaskStandings.{IsUnderWay};
 ghost use Rattle.task_region.specs.TaskViews.{TaskView, view_of_task};
-ghost use Rattle.task_region.specs.TaskRounds.{TakesGoalNext, TakesOwnGoal, PassesRound};
+ghost use Rattle.task_region.specs.TaskRounds.{HasLooked, PassesRound, TakesGoalNext, TakesOwnGoal};
 
 use crate::ahead::{TaskAhead, task_ahead};
 use crate::cuts::cuts_to_floor;
@@ -14,7 +14,7 @@ use crate::running::TaskStop;
 use crate::start::TaskStart;
 use au_term::NoMemory;
 use goal_kinds::GoalKinds;
-use region_control::{AfterGoal, GoalPlace};
+use region_control::{AfterGoal, Ahead, GoalPlace};
 use region_run::infer;
 use region_split::{FrameItem, Position, Region};
 use std::alloc::Global;
@@ -28,21 +28,22 @@ pub(crate) enum TaskRound {
     Stops(TaskStop, Option<Position>),
 }
 
-/// Takes one inference, if one more may be taken, or tells why the run stops.
+/// Goes on with what was found ahead: takes one inference, if one more may be taken, or tells why the run stops.
+// It is kept out of the loop of rounds, which takes up a goal that is found by itself.
 #[inline(never)]
-pub(crate) fn pass_round(
+pub(crate) fn pass_on(
     region: &mut Region,
     alloc: Global,
     kinds: &GoalKinds,
     task: &TaskStart,
-    start: Option<Position>,
+    found: Ahead,
     more: bool,
 ) -> Result<TaskRound, NoMemory>
-    requires way { IsUnderWay (view_of_task region.old task.now start) }
+    requires looked { (old : RegionView) × (start : Option Position) × HasLooked (view_of_task old task.now start) region.old found }
     requires kinds { kinds.now ≡ region.old.text.code.names }
-    ensures { IfOk result (PassesRound (view_of_task region.old task.now start) (view_of_task region.new task.now None) more) }
+    ensures { (old : RegionView) (start : Option Position) → HasLooked (view_of_task old task.now start) region.old found → IfOk result (PassesRound (view_of_task old task.now start) (view_of_task region.new task.now None) more) }
 {
-    let ahead = task_ahead(region, alloc, task, start)?;
+    let ahead = task_ahead(region, alloc, task, found)?;
     match ahead {
         TaskAhead::Goal(item, place) => take_goal(region, alloc, kinds, task, (item, place), more),
         TaskAhead::Stops(stop, next) => Ok(TaskRound::Stops(stop, next)),
@@ -50,7 +51,8 @@ pub(crate) fn pass_round(
 }
 
 /// Takes a goal, but for a cut to a node of the branch.
-fn take_goal(
+#[inline(always)]
+pub(crate) fn take_goal(
     region: &mut Region,
     alloc: Global,
     kinds: &GoalKinds,

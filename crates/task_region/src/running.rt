@@ -4,11 +4,11 @@ ghost use Rattle.task_region.specs.TaskStandings.{IsUnderWay};
 ghost use Rattle.task_region.specs.TaskViews.{view_of_task};
 ghost use Rattle.task_region.specs.TaskRounds.{RunsOn};
 
-use crate::rounds::{TaskRound, after_goal, pass_round};
+use crate::rounds::{TaskRound, after_goal, pass_on, take_goal};
 use crate::start::TaskStart;
 use au_term::{FlatTerm, NoMemory};
 use goal_kinds::GoalKinds;
-use region_control::GoalPlace;
+use region_control::{Ahead, GoalPlace, look_ahead};
 use region_run::{Taken, take_compound};
 use region_split::{FrameItem, Position, Region};
 use std::alloc::Global;
@@ -64,16 +64,23 @@ pub(crate) fn run_on(
                 TaskRound::GoesOn(position) => position,
                 TaskRound::Stops(stop, position) => return Ok((ran(count, stop), position)),
             },
-            Taken::Nothing(position) => {
-                match pass_round(region, alloc, kinds, task, position, true)? {
+            Taken::Nothing(position) => match look_ahead(region, alloc, position)? {
+                Ahead::Goal(item, place) => {
+                    match take_goal(region, alloc, kinds, task, (item, place), true)? {
+                        TaskRound::GoesOn(position) => position,
+                        TaskRound::Stops(stop, position) => return Ok((ran(count, stop), position)),
+                    }
+                }
+                found => match pass_on(region, alloc, kinds, task, found, true)? {
                     TaskRound::GoesOn(position) => position,
                     TaskRound::Stops(stop, position) => return Ok((ran(count, stop), position)),
-                }
-            }
+                },
+            },
         };
         count += 1;
     }
-    match pass_round(region, alloc, kinds, task, next, false)? {
+    let found = look_ahead(region, alloc, next)?;
+    match pass_on(region, alloc, kinds, task, found, false)? {
         TaskRound::GoesOn(_) => unreachable!(),
         TaskRound::Stops(stop, position) => Ok((ran(count, stop), position)),
     }

@@ -26,9 +26,9 @@ pub fn region_stops_at_goals()
     ensures ball { BallsStop }
 {}
 
-/// Where what is deferred is on top, its next item is loaded or skipped, or the run stops.
+/// Where what is deferred is on top, its next goals in one scope are loaded, its next mark is skipped, or the run stops.
 pub fn region_takes_deferred_items()
-    ensures goal { GoalsLoaded }
+    ensures goals { GoalsLoaded }
     ensures mark { MarksSkipped }
     ensures answer { AnswersStop }
     ensures removal { RemovalsStop }

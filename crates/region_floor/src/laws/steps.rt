@@ -56,12 +56,12 @@ pub fn goals_are_gates()
     ensures cut { CutsAreGates }
 {}
 
-/// Where nothing but what is deferred is left on top: an answer or a removal is a gate, a goal is loaded, the end of what
-/// a catch guards is skipped, and a result is given to its findall.
+/// Where nothing but what is deferred is left on top: an answer or a removal is a gate, goals in one scope are
+/// loaded, the end of what a catch guards is skipped, and a result is given to its findall.
 pub fn deferred_items_come_next()
     ensures answer { AnswersAreGates }
     ensures removal { RemovalsAreGates }
-    ensures goal { GoalsLoad }
+    ensures goals { GoalsLoad }
     ensures mark { CatchMarksSkip }
     ensures result { ResultsAreGiven }
 {}
