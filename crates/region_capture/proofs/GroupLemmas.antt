@@ -1,5 +1,5 @@
 -- Choice points that were taken off, and written down.
-use Rattle.std.proofs.Common.{◌≡◌, ℕ, Vec, ◌+◌, ◌≤◌, List, [], ◌∷◌, ◌++◌, append-nil, length, length-append, map, refl, sym, ap, ap₂, ◌∙◌, subst, arith}
+use Rattle.std.proofs.Common.{◌≡◌, ℕ, Vec, ◌+◌, ◌<◌, ◌≤◌, Bool, List, [], ◌∷◌, ◌++◌, append-nil, length, length-append, map, refl, sym, ap, ap₂, ◌∙◌, subst, arith}
 use Rattle.std.proofs.lemmas.List.{same_from_push}
 use Rattle.std.specs.Global.{Global}
 use Rattle.au_term.specs.Term.{Term, var_bound}
@@ -24,14 +24,17 @@ use Rattle.cell_store.proofs.CellMeaningLemmas.{term_below}
 use Rattle.au_model.specs.Terms.Each.{Each}
 use Rattle.region_capture.specs.CapturedItems.{ItemLists, IsItemOver}
 use Rattle.region_capture.specs.CapturedMeanings.{MeantAlternative, MeansAlternative, AreMeant, meant_entry, meant_continuation, captured_bindings}
-use Rattle.region_capture.specs.CapturedChoices.{MeantChoice, group_entries, IsAloneOf, CapturesChoice}
+use Rattle.region_capture.specs.CapturedChoices.{MeantChoice, group_entries, IsAloneOf}
 use Rattle.region_capture.specs.CapturedRegions.{bound_at}
-use Rattle.region_capture.specs.CaptureSteps.{AreWrittenSince, CapturesFollowing, CapturesUpTo, CapturesGroup, CapturesNewest, HasOwnOnTop, entries_here, no_entries, HasMarksAt}
+use Rattle.region_capture.specs.KeptLevels.{IsItemReached, AreBindingsReached, IsKindReached, HasResultsFrom, ReachesAlternative, KeepsLevel, KeepsChoice}
+use Rattle.region_capture.specs.NeededBindings.{KeepsSince}
+use Rattle.region_capture.specs.CaptureSteps.{CapturesFollowing, CapturesUpTo, CapturesGroup, CapturesNewest, HasOwnOnTop, entries_here, no_entries, HasMarksAt}
 use Rattle.region_capture.specs.declared.captured.CapturedAlternative.{CapturedAlternative}
 use Rattle.region_capture.specs.declared.captured.CapturedChoice.{CapturedChoice}
 use Rattle.region_capture.specs.declared.captured.CapturedKind.{CapturedKind}
 use Rattle.region_capture.specs.declared.captured.CapturedKind.TheVariants.{Choice, Catch, Findall}
 use Rattle.region_capture.proofs.ComesBackLemmas.{stays_there}
+use Rattle.region_capture.proofs.ItemLemmas.{has_within}
 use Rattle.region_capture.proofs.MeantLemmas.{same_entries}
 use Rattle.region_capture.proofs.PositionLemmas.{items_over, items_marked, later_marks}
 
@@ -91,6 +94,7 @@ module _ (r : RegionView) (after : Position) (next : ℕ) (valid : IsValidStore 
     alone = tt;
     guard = λ g. one;
     terms = λ x e. tt;
+    results = tt;
   }
 
   pub catch_captured : (catcher recovery : BindingCell) (ball goal : Term) → next ≡ r.store.now.next → ball ≡ value_term r.store catcher → goal ≡ value_term r.store recovery → a ≡ CatchOf catcher recovery → CapturesGroup r r lists more a after (Catch ball goal) taken
@@ -107,6 +111,7 @@ module _ (r : RegionView) (after : Position) (next : ℕ) (valid : IsValidStore 
         let most : r.store.now.next ≤ x.next = let n = same_next x e in omega (arith, n, same) in
         let v = subst (AreAlternativesIn r) is values in
         (value_below catcher ball x.next v.0 ball_is most, value_below recovery goal x.next v.1 goal_is most);
+    results = tt;
   }
 
   -- what is bound does not reach the results
@@ -133,6 +138,7 @@ module _ (r : RegionView) (after : Position) (next : ℕ) (valid : IsValidStore 
         terms = λ x e.
             let n : x.next ≡ results.next = same_next x e ∙ same in
             (value_below list whole x.next v.0 whole_is (omega (arith, n, most)), subst (λ y. Each (λ t. var_bound t ≤ y) terms.items) (sym n) (subst (Each (λ t. var_bound t ≤ results.next)) (sym terms_are) v.1.below));
+        results = subst (Each (IsNumberedFrom r.store.now.next)) (sym terms_are) v.1.above;
       }
 
 as_long : (more : ItemLists) (before : Substitution) (first cut : ℕ) (taken : List CapturedAlternative) (ms : List MeantAlternative) → AreMeant more before first cut taken ms → length taken ≡ length ms
@@ -141,28 +147,52 @@ as_long more before first cut [] (m ∷ ms) k = absurd k
 as_long more before first cut (a ∷ taken) [] k = absurd k
 as_long more before first cut (a ∷ taken) (m ∷ ms) k = let e = as_long more before first cut taken ms k.1 in omega (arith, e)
 
+-- what alternatives have left, by what they mean
+items_reached : (next : ℕ) (seen : List Bool) (lists : ItemLists) (before : Substitution) (first cut : ℕ) (taken : List CapturedAlternative) (ms : List MeantAlternative) → AreMeant lists before first cut taken ms → Each (ReachesAlternative next seen lists) taken
+    → Each (λ (m : MeantAlternative). Each (IsItemReached next seen) m.items) ms
+items_reached next seen lists before first cut [] [] k r = tt
+items_reached next seen lists before first cut [] (m ∷ ms) k r = absurd k
+items_reached next seen lists before first cut (a ∷ taken) [] k r = absurd k
+items_reached next seen lists before first cut (a ∷ taken) (m ∷ ms) k r = (r.0.items m.items k.0.items, items_reached next seen lists before first cut taken ms k.1 r.1)
+
+pub numbers_within : (lists : ItemLists) (before : Substitution) (first cut : ℕ) (taken : List CapturedAlternative) (ms : List MeantAlternative) → AreMeant lists before first cut taken ms → Each (λ (a : CapturedAlternative). a.first < length lists) taken
+numbers_within lists before first cut [] ms k = tt
+numbers_within lists before first cut (a ∷ taken) [] k = absurd k
+numbers_within lists before first cut (a ∷ taken) (m ∷ ms) k = (has_within lists a.first m.items k.0.items, numbers_within lists before first cut taken ms k.1)
+
 -- the newest choice point
 module _ (old r new : RegionView) (c : ChoicePoint) (takes : TakesNewest old r c) (lists more : ItemLists) (choice : CapturedChoice) (group : CapturesGroup r new lists more c.alternatives c.after choice.kind choice.alternatives.items) (mark : ℕ) (under : mark + 1 ≡ length r.choices)
-    (many : length r.store.marks ≡ length r.choices) (below : AreWrittenSince r.store mark choice.below) (next : choice.next ≡ r.store.now.next) where
+    (many : length r.store.marks ≡ length r.choices) (valid : IsValidStore r.store) (was seen : List Bool) (since : KeepsSince new.store mark was seen choice.below) (kind : IsKindReached new.store.now.next seen choice.kind) (reached : Each (ReachesAlternative new.store.now.next seen more) choice.alternatives.items)
+    (next : choice.next ≡ r.store.now.next) where
   abbrev meant : MeantChoice
   meant = record { kind = choice.kind; came = bound_at r.store.now; alternatives = group.captures.meant }
 
   same_count : length r.choices ≡ length new.choices
   same_count = ap (λ (cs : List ChoicePoint). length cs) (sym group.captures.back.choices)
 
-  captured : (before : List Moment) (m : Moment) → new.store.marks ≡ before ++ m ∷ [] → CapturesChoice more (bound_at m) (length new.choices) choice meant
+  same_now : new.store.now ≡ r.store.now
+  same_now = group.captures.back.now
+
+  after_next : new.store.now.next ≡ choice.next
+  after_next = ap (λ (m : Moment). m.next) same_now ∙ sym next
+
+  captured : (before : List Moment) (m : Moment) → new.store.marks ≡ before ++ m ∷ [] → KeepsChoice more (bound_at m) (length new.choices) seen choice meant
   captured before m are =
       let marks : r.store.marks ≡ before ++ m ∷ [] = sym group.captures.back.marks ∙ are in
       let long = ap (λ (ms : List Moment). length ms) marks in
-      let made = below m (record { before = before; after = []; are = marks; over = omega (arith, long, many, under, length-append before (m ∷ [])) }) in
+      let level = since.level m (record { before = before; after = []; are = are; over = omega (arith, long, many, under, length-append before (m ∷ [])) }) in
       record {
         kind = refl;
-        below = subst (λ n. ExtendsBy m.bound r.store.now.bound n (captured_bindings choice.below)) (sym next) made.0;
+        level = subst (λ (t : Moment). KeepsLevel (bound_at m) (bound_at t) seen choice.below) same_now level;
         next = sym next;
-        more = let le = made.1 in omega (arith, le, next);
+        final = valid.final;
         alternatives = subst (λ n. AreMeant more r.store.now.bound choice.next n choice.alternatives.items group.captures.meant) same_count (subst (λ n. AreMeant more r.store.now.bound n (length r.choices) choice.alternatives.items group.captures.meant) (sym next) group.captures.are);
         terms = group.terms;
         alone = subst (IsAloneOf choice.kind) (as_long more r.store.now.bound r.store.now.next (length r.choices) choice.alternatives.items group.captures.meant group.captures.are) group.alone;
+        items = subst (λ n. Each (λ (a : MeantAlternative). Each (IsItemReached n seen) a.items) group.captures.meant) after_next (items_reached new.store.now.next seen more r.store.now.bound r.store.now.next (length r.choices) choice.alternatives.items group.captures.meant group.captures.are reached);
+        bindings = subst (λ n. Each (AreBindingsReached n seen) choice.alternatives.items) after_next (each-more (ReachesAlternative new.store.now.next seen more) (AreBindingsReached new.store.now.next seen) (λ a k. k.bindings) choice.alternatives.items reached);
+        guard = subst (λ n. IsKindReached n seen choice.kind) after_next kind;
+        results = subst (λ n. HasResultsFrom n choice.kind) (sym next) group.results;
       }
 
   group_is : (named : List NamedTerm) → entries_here r c.alternatives c.after named ≡ group_entries (heights_of named old) named meant
@@ -171,10 +201,12 @@ module _ (old r new : RegionView) (c : ChoicePoint) (takes : TakesNewest old r c
       ∙ (append-nil (map (meant_entry choice.kind (heights_of named r) named) group.captures.meant)
       ∙ same_entries more r.store.now.bound r.store.now.next (length r.choices) choice.kind (heights_of named r) (heights_of named old) named choice.alternatives.items group.captures.meant (takes.heights named) group.captures.are)
 
-  pub newest_captured : CapturesNewest old new lists more choice
+  pub newest_captured : CapturesNewest old new lists more was seen choice
   newest_captured = record {
     meant = meant;
     captures = captured;
+    sees = since.below;
+    long = since.long;
     came = ap bound_at (sym group.captures.back.now);
     marked = takes.marked ∙ ap₂ (λ (ms : List Moment) (m : Moment). ms ++ m ∷ []) (sym group.captures.back.marks) (sym group.captures.back.now);
     entries = λ named. takes.entries named ∙ ap₂ (λ es fs. es ++ fs) (group_is named) (sym (group.captures.back.entries named));

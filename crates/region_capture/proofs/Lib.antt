@@ -9,7 +9,10 @@ pub mod ClausesLemmas
 pub mod SolutionLemmas
 pub mod SolutionsLemmas
 pub mod GroupLemmas
-pub mod ChoiceLemmas
-pub mod CaptureLemmas
+pub mod ReachLemmas
 pub mod SeenLemmas
-pub mod NeededLemmas
+pub mod LevelLemmas
+pub mod ChoiceLemmas
+pub mod KeptLemmas
+pub mod KeptChoiceLemmas
+pub mod CaptureLemmas

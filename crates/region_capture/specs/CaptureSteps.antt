@@ -1,5 +1,5 @@
 -- The steps by which a region is taken off.
-use Rattle.std.specs.Prelude.{◌≡◌, ◌⊎◌, ℕ, ◌≤◌, List, [], ◌∷◌, ◌++◌, length, map, slice_get, IsSomeAnd, Option, Some, None, option_to_list}
+use Rattle.std.specs.Prelude.{◌≡◌, ◌⊎◌, ℕ, ◌≤◌, Bool, List, [], ◌∷◌, ◌++◌, length, map, slice_get, IsSomeAnd, Option, Some, None, option_to_list}
 use Rattle.au_term.specs.declared.segment.Binding.{Binding}
 use Rattle.au_model.specs.Terms.Named.{NamedTerm}
 use Rattle.au_model.specs.Terms.Each.{Each}
@@ -21,8 +21,9 @@ use Rattle.region_split.specs.declared.frame.Position.{Position}
 use Rattle.branch_bindings.specs.Extensions.{ExtendsBy}
 use Rattle.region_capture.specs.CapturedItems.{ItemLists, HasItems, AddsItems}
 use Rattle.region_capture.specs.CapturedMeanings.{captured_bindings, MeantAlternative, meant_entry, AreMeant, IsKindBelow}
-use Rattle.region_capture.specs.CapturedChoices.{MeantChoice, group_entries, IsAloneOf, CapturesChoice}
+use Rattle.region_capture.specs.CapturedChoices.{MeantChoice, group_entries, IsAloneOf}
 use Rattle.region_capture.specs.CapturedRegions.{bound_at}
+use Rattle.region_capture.specs.KeptLevels.{SeesBelow, HasResultsFrom, KeepsChoice}
 use Rattle.region_capture.specs.declared.captured.CapturedAlternative.{CapturedAlternative}
 use Rattle.region_capture.specs.declared.captured.CapturedChoice.{CapturedChoice}
 use Rattle.region_capture.specs.declared.captured.CapturedKind.{CapturedKind}
@@ -151,16 +152,23 @@ pub record CapturesGroup (old new : RegionView) (lists more : ItemLists) (altern
   pub alone : IsAloneOf kind (length taken)
   pub guard : IsGuarding alternatives → length taken ≡ 1
   pub terms : (a : CapturedAlternative) → taken ≡ a ∷ [] → IsKindBelow a.next kind
+  pub results : HasResultsFrom old.store.now.next kind
 
 -- the newest choice point is no end of a query
 abbrev pub HasOwnOnTop : RegionView → Type 0
 HasOwnOnTop r = (cs : List ChoicePoint) (c : ChoicePoint) → r.choices ≡ cs ++ c ∷ [] → StandsForNoEnd c
 
--- the newest choice point was taken off, and written down
-pub record CapturesNewest (old new : RegionView) (lists more : ItemLists) (c : CapturedChoice) : Type 0 where
+-- the newest mark is of a moment with so many variables or less
+abbrev pub HasNewestBelow : RegionView → ℕ → Type 0
+HasNewestBelow r count = (before : List Moment) (m : Moment) → r.store.marks ≡ before ++ m ∷ [] → m.next ≤ count
+
+-- the newest choice point was taken off, and written down; what it has left was seen beside what had been seen
+pub record CapturesNewest (old new : RegionView) (lists more : ItemLists) (was seen : List Bool) (c : CapturedChoice) : Type 0 where
   pub meant : MeantChoice
   pub captures : (before : List Moment) (under : Moment) → new.store.marks ≡ before ++ under ∷ []
-      → CapturesChoice more (bound_at under) (length new.choices) c meant
+      → KeepsChoice more (bound_at under) (length new.choices) seen c meant
+  pub sees : SeesBelow new.store.now.next was seen
+  pub long : length seen ≡ length was
   pub came : meant.came ≡ bound_at new.store.now
   pub marked : old.store.marks ≡ new.store.marks ++ new.store.now ∷ []
   pub entries : (named : List NamedTerm) → entries_of named old ≡ group_entries (heights_of named old) named meant ++ entries_of named new

@@ -25,8 +25,8 @@ abbrev pub bound_at : Moment → BoundThen
 bound_at m = record { bound = m.bound; next = m.next }
 
 -- what was left at a position and above so many choice points was taken off: it means the entry at the position and those of the choice
--- points above; what was bound then was made, choice point by choice point, of what was bound when the newest of the others came. At the
--- position as much is bound as gives the items there, and each variable that was there when the newest choice point came, what they stand for
+-- points above, where names are of variables that were there when the newest of the others came; what was bound then was made, choice
+-- point by choice point, of what was bound at that time. So much is bound as gives these variables, and all that is left, what they stand for
 pub record CapturesRegion (old new : RegionView) (floor : ℕ) (p : Position) (c : Captured) : Type 0 where
   pub start : Moment
   pub marked : slice_get old.store.marks (floor - 1) ≡ Some start
@@ -34,11 +34,12 @@ pub record CapturesRegion (old new : RegionView) (floor : ℕ) (p : Position) (c
   pub choices : List MeantChoice
   pub many : length old.choices ≡ floor + length choices
   pub goes_on : let under = bound_under (bound_at start) choices in MeansAlternative c.items under.bound under.next (length old.choices) c.current current
-  pub now : (v : ℕ) → v < (bound_under (bound_at start) choices).next → value_of current.bound v ≡ value_of old.store.now.bound v
-  pub entry : (named : List NamedTerm) → Each (IsNamedBelow (bound_under (bound_at start) choices).next) named
+  pub now : (v : ℕ) → v < start.next → value_of current.bound v ≡ value_of old.store.now.bound v
+  pub entry : (named : List NamedTerm) → Each (IsNamedBelow start.next) named
       → position_entry named old p ≡ PlainEntry (meant_continuation (heights_of named old) named current)
   pub captured : CaptureChoices c.items (bound_at start) floor c.choices.items choices
-  pub entries : (named : List NamedTerm) → entries_of named old ≡ meant_entries (heights_of named old) named choices ++ entries_of named new
+  pub entries : (named : List NamedTerm) → Each (IsNamedBelow start.next) named
+      → entries_of named old ≡ meant_entries (heights_of named old) named choices ++ entries_of named new
   pub heights : (named : List NamedTerm) → AreHeightsOf (heights_of named old) named floor (length (entries_of named new)) choices
   pub marks : MarkGuards floor choices current
   pub choice_marks : Each (λ m. Each (MarkGuards floor choices) m.alternatives) choices

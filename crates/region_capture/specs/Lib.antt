@@ -2,5 +2,6 @@ pub mod CapturedItems
 pub mod CapturedMeanings
 pub mod CapturedChoices
 pub mod CapturedRegions
+pub mod KeptLevels
 pub mod CaptureSteps
 pub mod NeededBindings

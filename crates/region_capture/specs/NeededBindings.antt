@@ -1,61 +1,38 @@
--- The bindings that what is left can reach.
-use Rattle.std.specs.Prelude.{◌≡◌, ◌⊎◌, ℕ, ◌+◌, ◌<◌, ◌≤◌, Bool, true, false, cond, List, [], ◌∷◌, ◌++◌, length, get_or}
+-- The bindings that what is left can reach, as they are found.
+use Rattle.std.specs.Prelude.{◌≡◌, ◌⊎◌, ℕ, ◌+◌, ◌<◌, ◌≤◌, Bool, cond, List, [], ◌∷◌, ◌++◌, length}
 use Rattle.std.specs.List.{Contains}
-use Rattle.au_term.specs.Term.{Term, VarTerm, var_bound}
+use Rattle.au_term.specs.Term.{VarTerm, var_bound}
 use Rattle.au_term.specs.declared.segment.Binding.{Binding}
 use Rattle.au_model.specs.Terms.Each.{Each}
-use Rattle.au_model.specs.Terms.Substitutions.{Substitution, value_of, resolve, occurs}
-use Rattle.run_model.specs.Laws.Numbering.{AreItemTermsBelow}
-use Rattle.run_model.specs.Machine.Items.{Item, GoalItem, CatchMark, CollectMark, RemovalItem, resolve_item}
-use Rattle.cell_store.specs.MadeBindings.{AreOlderSince}
+use Rattle.au_model.specs.Terms.Substitutions.{value_of, resolve}
 use Rattle.cell_store.specs.StoreView.{Moment, StoreView}
-use Rattle.branch_bindings.specs.Extensions.{IsBoundAmong, BindOnce, ExtendsBy}
+use Rattle.branch_bindings.specs.Extensions.{IsBoundAmong, BindOnce}
 use Rattle.region_split.specs.Regions.{RegionView, items_here}
 use Rattle.region_split.specs.declared.frame.Position.{Position}
 use Rattle.region_capture.specs.CapturedItems.{ItemLists, HasItems, AddsItems}
 use Rattle.region_capture.specs.CapturedMeanings.{captured_bindings}
+use Rattle.region_capture.specs.CapturedChoices.{BoundThen}
+use Rattle.region_capture.specs.CapturedRegions.{bound_at}
+use Rattle.region_capture.specs.KeptLevels.{IsSeen, SeesBelow, IsItemReached, KeepsSeen, KeepsLevel}
 use Rattle.region_capture.specs.CaptureSteps.{IsMarkedOver}
 use Rattle.region_capture.specs.declared.captured.CapturedAlternative.{CapturedAlternative}
 use Rattle.region_capture.specs.declared.needed.Needed.{Needed}
 
--- a variable was seen
-abbrev pub IsSeen : Needed → ℕ → Type 0
-IsSeen n v = get_or n.seen.items v false ≡ true
-
--- it was, or is below a number
-abbrev pub IsVariableReached : ℕ → Needed → ℕ → Type 0
-IsVariableReached first n v = (v < first) ⊎ IsSeen n v
-
--- all variables of a term
-abbrev pub AreReachedIn : ℕ → Needed → Term → Type 0
-AreReachedIn first n t = (v : ℕ) → occurs v t ≡ true → IsVariableReached first n v
-
-abbrev pub IsItemReached : ℕ → Needed → Item ℕ → Type 0
-IsItemReached first n (GoalItem t c) = AreReachedIn first n t
-IsItemReached first n (CatchMark over) = Unit {0}
-IsItemReached first n (CollectMark t over) = AreReachedIn first n t
-IsItemReached first n (RemovalItem number) = Unit {0}
-
--- the variables of the items of a number are below another
-abbrev pub HasItemsBelow : ItemLists → ℕ → ℕ → Type 0
-HasItemsBelow lists number next = (left : List (Item ℕ)) → HasItems lists number left → Each (AreItemTermsBelow next) left
-
-abbrev pub ReachesItems : ℕ → Needed → ItemLists → ℕ → Type 0
-ReachesItems first n lists number = (left : List (Item ℕ)) → HasItems lists number left → Each (IsItemReached first n) left
-
--- the binding of a variable that was seen: what it stands for now is what its value stands for
-pub record IsSeenBinding (st : StoreView) (n : Needed) (b : Binding) : Type 0 where
-  pub seen : IsSeen n b.var
-  pub stands : value_of st.now.bound b.var ≡ resolve st.now.bound b.value
-  pub older : (w : ℕ) → b.value ≡ VarTerm w → w < b.var
+-- a variable with its value as it is written
+pub record IsWrittenFor (st : StoreView) (v : ℕ) (b : Binding) : Type 0 where
+  pub is : b.var ≡ v
+  pub stands : value_of st.now.bound v ≡ resolve st.now.bound b.value
+  pub older : (w : ℕ) → b.value ≡ VarTerm w → w < v
   pub below : var_bound b.value ≤ st.now.next
 
--- the bindings are those of the variables that were seen, each once
-pub record AreSeenSound (st : StoreView) (n : Needed) : Type 0 where
-  pub long : length n.seen.items ≡ st.now.next
-  pub each : Each (IsSeenBinding st n) n.bindings
-  pub once : BindOnce (captured_bindings n.bindings)
-  pub all : (v : ℕ) → IsSeen n v → (value_of st.now.bound v ≡ VarTerm v) ⊎ IsBoundAmong (captured_bindings n.bindings) v
+pub record AddsBound (st : StoreView) (v : ℕ) (old new : List Binding) : Type 0 where
+  pub binding : Binding
+  pub added : new ≡ old ++ binding ∷ []
+  pub written : IsWrittenFor st v binding
+
+-- the binding of a variable was put to others, if it is bound
+abbrev pub AddsBinding : StoreView → ℕ → List Binding → List Binding → Type 0
+AddsBinding st v old new = ((value_of st.now.bound v ≡ VarTerm v) × (new ≡ old)) ⊎ AddsBound st v old new
 
 -- how many variables were not seen
 abbrev pub unseen : List Bool → ℕ
@@ -66,45 +43,70 @@ unseen (b ∷ seen) = cond b 0 1 + unseen seen
 abbrev pub reach_left : Needed → ℕ
 reach_left n = unseen n.seen.items + length n.bindings
 
--- further variables were seen, all of them of a kind
-pub record SeesMore (st : StoreView) (P : ℕ → Type 0) (old new : Needed) : Type 0 where
-  pub sound : AreSeenSound st new
-  pub kept : (v : ℕ) → IsSeen old v → IsSeen new v
-  pub only : (v : ℕ) → IsSeen new v → IsSeen old v ⊎ P v
+-- further variables were seen, with the bindings of those that came at a number or later: where older ones that were bound since then
+-- had been seen, these are the bindings of all that were seen
+pub record SeesMore (st : StoreView) (first : ℕ) (old new : Needed) : Type 0 where
+  pub below : SeesBelow st.now.next old.seen.items new.seen.items
+  pub long : length new.seen.items ≡ length old.seen.items
+  pub keeps : (under : BoundThen) → first ≡ under.next → KeepsSeen under (bound_at st.now) old.seen.items old.bindings
+      → KeepsSeen under (bound_at st.now) new.seen.items new.bindings
   pub more : List Binding
   pub added : new.bindings ≡ old.bindings ++ more
   pub fewer : reach_left new ≤ reach_left old
 
--- the variables of the values too
-abbrev pub ReachesValues : ℕ → Needed → Type 0
-ReachesValues first n = Each (λ b. AreReachedIn first n b.value) n.bindings
+-- none of some variables is seen
+pub record Forgets (variables : List ℕ) (old new : List Bool) : Type 0 where
+  pub none : (v : ℕ) → Contains variables v → IsSeen new v → ⊥
+  pub others : (v : ℕ) → IsSeen old v → IsSeen new v ⊎ Contains variables v
+  pub only : (v : ℕ) → IsSeen new v → IsSeen old v
+  pub long : length new ≡ length old
 
--- older variables of a moment were seen, among them all that were bound since, and no others
-pub record SeesOlder (m : Moment) (st : StoreView) (n : Needed) : Type 0 where
-  pub older : List ℕ
-  pub since : AreOlderSince m st older
-  pub all : (v : ℕ) → Contains older v → IsSeen n v
-  pub only : (v : ℕ) → IsSeen n v → Contains older v
+-- the binding of one of some variables that was seen
+pub record IsAmong (among : ℕ → Type 0) (st : StoreView) (n : Needed) (b : Binding) : Type 0 where
+  pub own : among b.var
+  pub is_seen : IsSeen n.seen.items b.var
+  pub written : IsWrittenFor st b.var b
 
--- bindings made, of what was bound at a moment, what gives each variable that was there what it stands for now, and makes the same of
--- items
-pub record AreNeeded (m : Moment) (st : StoreView) (items : List (Item ℕ)) (bs : List Binding) : Type 0 where
-  pub later : m.next ≤ st.now.next
-  pub bound : Substitution
-  pub extends : ExtendsBy m.bound bound st.now.next (captured_bindings bs)
-  pub older : (v : ℕ) → v < m.next → value_of bound v ≡ value_of st.now.bound v
-  pub same : Each (λ i. resolve_item bound i ≡ resolve_item st.now.bound i) items
+-- those of all that were seen, each once
+pub record KeepsAmong (among : ℕ → Type 0) (st : StoreView) (n : Needed) : Type 0 where
+  pub each : Each (IsAmong among st n) n.bindings
+  pub once : BindOnce (captured_bindings n.bindings)
+  pub all : (v : ℕ) → among v → IsSeen n.seen.items v → (value_of st.now.bound v ≡ VarTerm v) ⊎ IsBoundAmong (captured_bindings n.bindings) v
 
--- at the mark over so many others
-abbrev pub AreNeededSince : StoreView → ℕ → List (Item ℕ) → List Binding → Type 0
-AreNeededSince st mark items bs = (m : Moment) → IsMarkedOver st mark m → AreNeeded m st items bs
+-- some variables were seen, and no others than before
+pub record SeesThese (st : StoreView) (variables : List ℕ) (old : List Bool) (new : Needed) : Type 0 where
+  pub kept : (v : ℕ) → IsSeen old v → IsSeen new.seen.items v
+  pub only : (v : ℕ) → IsSeen new.seen.items v → IsSeen old v ⊎ Contains variables v
+  pub all : (v : ℕ) → Contains variables v → IsSeen new.seen.items v
+  pub long : length new.seen.items ≡ length old
+  pub keeps : KeepsAmong (Contains variables) st new
 
-abbrev pub SeesOlderSince : StoreView → ℕ → Needed → Type 0
-SeesOlderSince st mark n = (m : Moment) → IsMarkedOver st mark m → SeesOlder m st n
+-- some variables, and those from a number on up to another
+abbrev pub IsOfThese : List ℕ → ℕ → ℕ → ℕ → Type 0
+IsOfThese variables first to v = Contains variables v ⊎ ((first ≤ v) × (v < to))
+
+-- the bindings of those that had been seen were put to others
+pub record WritesSeen (st : StoreView) (first to : ℕ) (old new : Needed) : Type 0 where
+  pub same : new.seen ≡ old.seen
+  pub keeps : (variables : List ℕ) → Each (λ v. v < first) variables → KeepsAmong (Contains variables) st old → KeepsAmong (IsOfThese variables first to) st new
+
+-- at the mark over so many others the bindings since then were found of what had been seen
+pub record OpensLevel (st : StoreView) (mark : ℕ) (old : List Bool) (new : Needed) : Type 0 where
+  pub below : SeesBelow st.now.next old new.seen.items
+  pub long : length new.seen.items ≡ length old
+  pub keeps : (m : Moment) → IsMarkedOver st mark m → KeepsSeen (bound_at m) (bound_at st.now) new.seen.items new.bindings
+
+-- and of what it can reach
+pub record KeepsSince (st : StoreView) (mark : ℕ) (old new : List Bool) (bs : List Binding) : Type 0 where
+  pub below : SeesBelow st.now.next old new
+  pub long : length new ≡ length old
+  pub level : (m : Moment) → IsMarkedOver st mark m → KeepsLevel (bound_at m) (bound_at st.now) new bs
 
 -- what is left at a position was written down, with the bindings since a mark that it can reach
-pub record CapturesCurrent (r : RegionView) (mark : ℕ) (p : Position) (old new : ItemLists) (a : CapturedAlternative) : Type 0 where
+pub record CapturesCurrent (r : RegionView) (mark : ℕ) (p : Position) (old new : ItemLists) (a : CapturedAlternative) (seen : List Bool) : Type 0 where
   pub items : HasItems new a.first (items_here r p)
   pub next : a.next ≡ r.store.now.next
-  pub bindings : AreNeededSince r.store mark (items_here r p) a.bindings
+  pub long : length seen ≡ r.store.now.next
+  pub level : (m : Moment) → IsMarkedOver r.store mark m → KeepsLevel (bound_at m) (bound_at r.store.now) seen a.bindings
+  pub reached : Each (IsItemReached r.store.now.next seen) (items_here r p)
   pub adds : AddsItems old new

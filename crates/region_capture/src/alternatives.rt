@@ -3,28 +3,32 @@ ghost use Rattle.std.specs.Prelude.{◌≡◌, ◌<◌, ◌∷◌, ◌≤◌, []
 ghost use Rattle.region_split.specs.ChoicePoints.{IsMarkOf};
 ghost use Rattle.region_split.specs.QueryEnds.{IsEnd};
 ghost use Rattle.region_split.specs.Regions.{AreAlternativesIn, IsPositionIn};
-ghost use Rattle.region_capture.specs.CaptureSteps.{CapturesFollowing, CapturesGroup, CapturesNewest, HasOwnOnTop};
+ghost use Rattle.region_capture.specs.CaptureSteps.{CapturesFollowing, CapturesGroup, CapturesNewest, HasNewestBelow, HasOwnOnTop};
 
 use crate::captured::{CapturedAlternative, CapturedChoice, CapturedKind};
 use crate::clauses::capture_clauses;
 use crate::items::CapturedItems;
+use crate::levels::bindings_for_choice;
 use crate::positions::capture_items;
 use crate::solutions::capture_solutions;
-use crate::writing::{bindings_since, written_term};
+use crate::writing::written_term;
 use au_term::{Bindings, NoMemory, VarNo};
 use branch_bindings::laws::extensions_compose;
 use region_split::{Alternatives, ChoicePoint, Position, Region, Trial};
 use std::alloc::Global;
 
-/// Takes off the newest choice point, which is no end of a query and has others under it.
+/// Takes off the newest choice point, which is no end of a query and has others under it. Of the bindings under it those are written
+/// that it or what was seen can reach.
 pub(crate) fn capture_newest(
     region: &mut Region,
     alloc: Global,
     items: &mut CapturedItems,
-) -> Result<CapturedChoice, NoMemory>
+    seen: Vec<bool>,
+) -> Result<(CapturedChoice, Vec<bool>), NoMemory>
     requires many { 1 < length region.old.choices }
     requires own { HasOwnOnTop region.old }
-    ensures { IfOk result (CapturesNewest region.old region.new items.old items.new) }
+    requires long { HasNewestBelow region.old (length seen.items) }
+    ensures { IfOk result (λ c. CapturesNewest region.old region.new items.old items.new seen.items c.1.items c.0) }
 {
     region.ends_are_oldest();
     let ChoicePoint {
@@ -34,15 +38,24 @@ pub(crate) fn capture_newest(
     } = region.take_newest();
     region.ends_are_oldest();
     let under = region.height() - 1;
-    let below = bindings_since(region.store(), alloc, under)?;
     let next = u64::from(region.store().next());
     let (kind, alternatives) = capture_group(region, alloc, alternatives, after, items)?;
-    Ok(CapturedChoice {
+    let (below, seen) = bindings_for_choice(
+        region.store(),
+        alloc,
+        under,
+        items,
+        &kind,
+        &alternatives,
+        seen,
+    )?;
+    let choice = CapturedChoice {
         kind,
         alternatives,
         below,
         next,
-    })
+    };
+    Ok((choice, seen))
 }
 
 /// The kind and the alternatives of a choice point that was taken off and goes on at a position.

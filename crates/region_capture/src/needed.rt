@@ -1,106 +1,98 @@
 //! The bindings that what is left can reach.
-ghost use Rattle.std.specs.Prelude.{◌≡◌, ℕ, ◌<◌, ◌≤◌, IfOk, List, OnOk, length};
-ghost use Rattle.au_term.specs.Term.{var_bound};
+ghost use Rattle.std.specs.Prelude.{◌≡◌, ◌<◌, ◌≤◌, IfOk, OnOk, length};
+ghost use Rattle.region_capture.specs.CapturedItems.{captured_item};
+ghost use Rattle.region_capture.specs.KeptLevels.{AreReachedIn, IsBindingReached, IsItemReached, IsSeen, IsVariableReached, ReachesItems, ReachesValues};
+ghost use Rattle.region_capture.specs.NeededBindings.{AddsBinding, SeesMore};
 ghost use Rattle.au_model.specs.Terms.Each.{Each};
-ghost use Rattle.run_model.specs.Laws.Numbering.{AreItemTermsBelow};
-ghost use Rattle.run_model.specs.Machine.Items.{Item};
-ghost use Rattle.region_capture.specs.CapturedItems.{HasItems, captured_item};
-ghost use Rattle.region_capture.specs.NeededBindings.{AreNeededSince, AreReachedIn, AreSeenSound, HasItemsBelow, IsItemReached, IsSeen, ReachesItems, ReachesValues, SeesMore, SeesOlderSince};
 
 use crate::items::{CapturedItem, CapturedItems};
 use crate::writing::written_term;
-use au_term::{Binding, Bindings, Cell, NoMemory, Shared};
+use au_term::{Binding, Bindings, Cell, NoMemory, Shared, VarNo};
 use cell_store::Store;
 use std::alloc::Global;
 
 /// Variables that were seen, by their numbers, and the bindings of those that are bound.
 #[derive(Drop)]
 pub(crate) struct Needed {
-    seen: Vec<bool>,
-    bindings: Bindings,
+    pub(crate) seen: Vec<bool>,
+    pub(crate) bindings: Bindings,
 }
 
-/// The bindings that are reached from the items of a number, and from the variables that were there at a mark and were bound since.
-pub(crate) fn bindings_needed(
+/// Puts the binding of a variable to others, if it is bound.
+pub(crate) fn write_binding(
     store: &Store,
     alloc: Global,
-    mark: usize,
-    items: &CapturedItems,
-    number: u32,
-) -> Result<Bindings, NoMemory>
-    requires mark { mark < length store.now.marks }
-    requires number { number < length items.now }
-    requires below { HasItemsBelow items.now number store.now.now.next }
-    ensures { IfOk result (λ bs. (left : List (Item ℕ)) → HasItems items.now number left → AreNeededSince store.now mark left bs) }
+    variable: u32,
+    bindings: &mut Bindings,
+) -> Result<(), NoMemory>
+    requires { variable < store.now.now.next }
+    ensures { OnOk result (AddsBinding store.now variable bindings.old bindings.new) }
 {
-    // The proof reads off that the store is sound.
-    let _next = store.next();
-    let first = store.next_at(mark);
-    let mut needed = older_needed(store, alloc, mark)?;
-    reach_items(store, alloc, first, items, number, &mut needed)?;
-    reach_values(store, alloc, first, &mut needed)?;
-    Ok(needed.bindings)
-}
-
-/// The variables that were there at a mark and were bound since.
-fn older_needed(store: &Store, alloc: Global, mark: usize) -> Result<Needed, NoMemory>
-    requires { mark < length store.now.marks }
-    ensures sound { IfOk result (AreSeenSound store.now) }
-    ensures older { IfOk result (SeesOlderSince store.now mark) }
-{
-    let older = store.older_since(mark)?;
-    let seen = vec![in alloc; false; store.next() as usize]?;
-    let bindings = Bindings::new(alloc);
-    let mut needed = Needed { seen, bindings };
-    for variable in &older {
-        see(store, alloc, *variable, &mut needed)?;
+    if let Some(value) = store.binding(variable) {
+        let value = written_term(store, alloc, value)?;
+        let var = u64::from(variable);
+        bindings.push(Binding { var, value })?;
     }
-    Ok(needed)
+    Ok(())
 }
 
-/// Sees a variable.
-fn see(store: &Store, alloc: Global, variable: u32, needed: &mut Needed) -> Result<(), NoMemory>
+/// Sees a variable, and puts its binding to the others if it came at a number or later.
+fn see(
+    store: &Store,
+    alloc: Global,
+    first: u32,
+    variable: u32,
+    needed: &mut Needed,
+) -> Result<(), NoMemory>
     requires there { variable < store.now.now.next }
-    requires sound { AreSeenSound store.now needed.old }
-    ensures more { OnOk result (SeesMore store.now (λ v. v ≡ variable) needed.old needed.new) }
-    ensures seen { OnOk result (IsSeen needed.new variable) }
+    requires long { store.now.now.next ≤ length needed.old.seen.items }
+    ensures more { OnOk result (SeesMore store.now first needed.old needed.new) }
+    ensures seen { OnOk result (IsSeen needed.new.seen.items variable) }
 {
     let at = variable as usize;
     if !needed.seen[at] {
         needed.seen[at] = true;
-        if let Some(value) = store.binding(variable) {
-            let value = written_term(store, alloc, value)?;
-            let var = u64::from(variable);
-            needed.bindings.push(Binding { var, value })?;
+        if variable >= first {
+            write_binding(store, alloc, variable, &mut needed.bindings)?;
         }
     }
     Ok(())
 }
 
-/// Sees the variables of a term from a number on.
-fn reach_term(
+/// Sees a variable by its number, if it is there.
+fn see_number(
+    store: &Store,
+    alloc: Global,
+    first: u32,
+    variable: VarNo,
+    needed: &mut Needed,
+) -> Result<(), NoMemory>
+    requires { store.now.now.next ≤ length needed.old.seen.items }
+    ensures more { OnOk result (SeesMore store.now first needed.old needed.new) }
+    ensures reached { OnOk result (IsVariableReached store.now.now.next needed.new.seen.items variable) }
+{
+    if variable < u64::from(store.next()) {
+        see(store, alloc, first, variable as u32, needed)?;
+    }
+    Ok(())
+}
+
+/// Sees the variables of a term that are there.
+pub(crate) fn reach_term(
     store: &Store,
     alloc: Global,
     first: u32,
     term: &Shared,
     needed: &mut Needed,
 ) -> Result<(), NoMemory>
-    requires below { var_bound term.now ≤ store.now.now.next }
-    requires sound { AreSeenSound store.now needed.old }
-    ensures more { OnOk result (SeesMore store.now (λ v. first ≤ v) needed.old needed.new) }
-    ensures reached { OnOk result (AreReachedIn first needed.new term.now) }
+    requires { store.now.now.next ≤ length needed.old.seen.items }
+    ensures more { OnOk result (SeesMore store.now first needed.old needed.new) }
+    ensures reached { OnOk result (AreReachedIn store.now.now.next needed.new.seen.items term.now) }
 {
-    // The proof reads off that numbers of variables fit.
-    let _next = store.next();
     for at in 0..term.len() {
         let (cell, base) = term.cell_at(at);
         match cell {
-            Cell::Var(number) => {
-                let variable = base + *number;
-                if variable >= u64::from(first) {
-                    see(store, alloc, variable as u32, needed)?;
-                }
-            }
+            Cell::Var(number) => see_number(store, alloc, first, base + *number, needed)?,
             _ => {}
         }
     }
@@ -115,10 +107,9 @@ fn reach_item(
     item: &CapturedItem,
     needed: &mut Needed,
 ) -> Result<(), NoMemory>
-    requires below { AreItemTermsBelow store.now.now.next (captured_item item.now) }
-    requires sound { AreSeenSound store.now needed.old }
-    ensures more { OnOk result (SeesMore store.now (λ v. first ≤ v) needed.old needed.new) }
-    ensures reached { OnOk result (IsItemReached first needed.new (captured_item item.now)) }
+    requires { store.now.now.next ≤ length needed.old.seen.items }
+    ensures more { OnOk result (SeesMore store.now first needed.old needed.new) }
+    ensures reached { OnOk result (IsItemReached store.now.now.next needed.new.seen.items (captured_item item.now)) }
 {
     match item {
         CapturedItem::Goal { term, .. } => reach_term(store, alloc, first, term, needed),
@@ -128,7 +119,7 @@ fn reach_item(
 }
 
 /// Sees the variables of the items of a number.
-fn reach_items(
+pub(crate) fn reach_items(
     store: &Store,
     alloc: Global,
     first: u32,
@@ -137,10 +128,9 @@ fn reach_items(
     needed: &mut Needed,
 ) -> Result<(), NoMemory>
     requires number { number < length items.now }
-    requires below { HasItemsBelow items.now number store.now.now.next }
-    requires sound { AreSeenSound store.now needed.old }
-    ensures more { OnOk result (SeesMore store.now (λ v. first ≤ v) needed.old needed.new) }
-    ensures reached { OnOk result (ReachesItems first needed.new items.now number) }
+    requires long { store.now.now.next ≤ length needed.old.seen.items }
+    ensures more { OnOk result (SeesMore store.now first needed.old needed.new) }
+    ensures reached { OnOk result (ReachesItems store.now.now.next needed.new.seen.items items.now number) }
 {
     let mut number = number;
     while let Some((item, after)) = items.first(number) {
@@ -150,16 +140,50 @@ fn reach_items(
     Ok(())
 }
 
+/// Sees the variables of bindings, and those of their values.
+pub(crate) fn reach_bindings(
+    store: &Store,
+    alloc: Global,
+    first: u32,
+    bindings: &[Binding],
+    needed: &mut Needed,
+) -> Result<(), NoMemory>
+    requires { store.now.now.next ≤ length needed.old.seen.items }
+    ensures more { OnOk result (SeesMore store.now first needed.old needed.new) }
+    ensures reached { OnOk result (Each (IsBindingReached store.now.now.next needed.new.seen.items) bindings.now) }
+{
+    for binding in bindings {
+        reach_binding(store, alloc, first, binding, needed)?;
+    }
+    Ok(())
+}
+
+fn reach_binding(
+    store: &Store,
+    alloc: Global,
+    first: u32,
+    binding: &Binding,
+    needed: &mut Needed,
+) -> Result<(), NoMemory>
+    requires { store.now.now.next ≤ length needed.old.seen.items }
+    ensures more { OnOk result (SeesMore store.now first needed.old needed.new) }
+    ensures reached { OnOk result (IsBindingReached store.now.now.next needed.new.seen.items binding.now) }
+{
+    see_number(store, alloc, first, binding.var, needed)?;
+    reach_term(store, alloc, first, &binding.value, needed)?;
+    Ok(())
+}
+
 /// Sees the variables of the values of what was seen.
-fn reach_values(
+pub(crate) fn reach_values(
     store: &Store,
     alloc: Global,
     first: u32,
     needed: &mut Needed,
 ) -> Result<(), NoMemory>
-    requires { AreSeenSound store.now needed.old }
-    ensures more { OnOk result (SeesMore store.now (λ v. first ≤ v) needed.old needed.new) }
-    ensures reached { OnOk result (ReachesValues first needed.new) }
+    requires { store.now.now.next ≤ length needed.old.seen.items }
+    ensures more { OnOk result (SeesMore store.now first needed.old needed.new) }
+    ensures reached { OnOk result (ReachesValues store.now.now.next needed.new.seen.items needed.new.bindings) }
 {
     let mut at = 0;
     while at < needed.bindings.as_slice().len() {

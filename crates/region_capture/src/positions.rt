@@ -8,7 +8,7 @@ ghost use Rattle.region_capture.specs.NeededBindings.{CapturesCurrent};
 
 use crate::captured::CapturedAlternative;
 use crate::items::{CapturedItem, CapturedItems};
-use crate::needed::bindings_needed;
+use crate::levels::bindings_for_items;
 use crate::writing::{bindings_since, written_item};
 use au_term::NoMemory;
 use region_split::{Left, Position, Region};
@@ -59,27 +59,30 @@ pub(crate) fn capture_position(
 }
 
 /// What is left at a position, with those bindings since the mark over so many others that it can reach, and those of variables that
-/// were there at the mark.
+/// were there at the mark; and what it can reach.
 pub(crate) fn capture_current(
     region: &Region,
     alloc: Global,
     mark: usize,
     position: Position,
     items: &mut CapturedItems,
-) -> Result<CapturedAlternative, NoMemory>
+) -> Result<(CapturedAlternative, Vec<bool>), NoMemory>
     requires mark { mark < length region.now.choices }
     requires position { IsPositionIn region.now position }
-    ensures { IfOk result (CapturesCurrent region.now mark position items.old items.new) }
+    ensures { IfOk result (λ c. CapturesCurrent region.now mark position items.old items.new c.0 c.1.items) }
 {
     region.ends_are_oldest();
     let first = capture_items(region, alloc, position, items)?;
-    let bindings = bindings_needed(region.store(), alloc, mark, items, first)?;
-    let next = u64::from(region.store().next());
-    Ok(CapturedAlternative {
+    let store = region.store();
+    let unseen = vec![in alloc; false; store.next() as usize]?;
+    let (bindings, seen) = bindings_for_items(store, alloc, mark, items, first, unseen)?;
+    let next = u64::from(store.next());
+    let current = CapturedAlternative {
         first,
         bindings,
         next,
-    })
+    };
+    Ok((current, seen))
 }
 
 /// Puts the items that are left at a position to the others, and gives the number that has them.

@@ -25,10 +25,13 @@ pub fn capture(
     region.ends_are_oldest();
     let mut items = CapturedItems::new(alloc);
     let newest = region.height() - 1;
-    let current = capture_current(region, alloc, newest, position, &mut items)?;
+    let (current, reached) = capture_current(region, alloc, newest, position, &mut items)?;
+    let mut seen = reached;
     let mut choices = Vec::new(alloc);
     while region.height() > floor as usize {
-        choices.push(capture_newest(region, alloc, &mut items)?)?;
+        let (choice, more) = capture_newest(region, alloc, &mut items, seen)?;
+        choices.push(choice)?;
+        seen = more;
     }
     Ok(Captured {
         items,

@@ -29,6 +29,24 @@ fn capture_binding(alloc: Global, region: &mut Region) -> Result<Captured, NoMem
     capture(region, alloc, 1, goal)
 }
 
+/// Over the end of a query a variable bound to 7 and another bound to 8, and a choice point with nothing left over which a goal names
+/// the first.
+fn capture_reached(alloc: Global, region: &mut Region) -> Result<Captured, NoMemory>
+    requires { length region.old.choices ≡ 0 }
+{
+    region.set_floor();
+    let end = region.nothing_left();
+    region.push_choice(Alternatives::QueryEnd, end)?;
+    let reached = region.fresh(1)?;
+    region.unify(BindingCell::Var(reached), BindingCell::Int(7))?;
+    let dead = region.fresh(1)?;
+    region.unify(BindingCell::Var(dead), BindingCell::Int(8))?;
+    let nothing = region.nothing_left();
+    region.push_choice(Alternatives::Elsewhere, nothing)?;
+    let goal = region.push_item(FrameItem::Goal(BindingCell::Var(reached)), 1, nothing)?;
+    capture(region, alloc, 1, goal)
+}
+
 fn expect_term(
     rt: &impl Abort,
     alloc: Global,
@@ -98,4 +116,20 @@ fn bindings_are_where_they_were_made(rt: HostRuntime) -> Result<(), Fail> {
     let captured = capture_binding(alloc, &mut region)?;
     expect_height(&rt, &region, 1);
     expect_captured(&rt, alloc, &captured)
+}
+
+/// The other variable was bound below the choice point too.
+#[test]
+fn what_nothing_reaches_is_left_out(rt: HostRuntime) -> Result<(), Fail> {
+    let alloc = rt.alloc();
+    let mut region = region(alloc)?;
+    assert!(rt; region.height() == 0);
+    let captured = capture_reached(alloc, &mut region)?;
+    expect_height(&rt, &region, 1);
+    expect_unbound(&rt, &captured.current.bindings);
+    expect(&rt, captured.choices.len(), 1);
+    for choice in &captured.choices {
+        expect_bound(&rt, alloc, &choice.below)?;
+    }
+    Ok(())
 }

@@ -214,18 +214,6 @@ module _ (group : MeantChoice → List Entry) (same : (m : MeantChoice) → leng
   pub marks_over : (cut : ℕ) (ms : List MeantChoice) (a : MeantAlternative) → MarkGuards cut ms a → Each (IsOverChoices cut (map group (reverse ms))) a.items
   marks_over cut ms a h = each-more (MarksGuard cut ms) (IsOverChoices cut (map group (reverse ms))) (mark_over cut ms) a.items h
 
--- there are more variables when a newer choice point comes
-under_more : (lists : ItemLists) (start : BoundThen) (cut : ℕ) (cs : List CapturedChoice) (ms : List MeantChoice)
-    → CaptureChoices lists start cut cs ms → start.next ≤ (bound_under start ms).next
-under_more lists start cut [] [] h = omega arith
-under_more lists start cut [] (m ∷ ms) h = absurd h
-under_more lists start cut (c ∷ cs) [] h = absurd h
-under_more lists start cut (c ∷ cs) (m ∷ ms) h =
-    let rest = under_more lists start cut cs ms h.1 in
-    let more = h.0.more in
-    let next = h.0.next in
-    omega (arith, rest, more, next)
-
 same_start : (old new : RegionView) (p : Position) (levels : List Level) (c : Captured) (k : CapturesRegion old new (length levels) p c) (start : Moment)
     → slice_get old.store.marks (length levels - 1) ≡ Some start → k.start ≡ start
 same_start old new p levels c k start at = let both : Some k.start ≡ Some start = sym k.marked ∙ at in cc
@@ -277,7 +265,7 @@ module _ (levels : List Level) (number : ℕ) (named : List NamedTerm) (items : 
 
   below_is : top.below ≡ meant_entries heights all_named k.choices
   below_is =
-      same_ends top.below (bare_floor floor) (meant_entries heights all_named k.choices) (entries_of all_named new) (sym top.entries ∙ k.entries all_named)
+      same_ends top.below (bare_floor floor) (meant_entries heights all_named k.choices) (entries_of all_named new) (sym top.entries ∙ k.entries all_named named_below)
       (let b = bare-size floor in let o = others_are in omega (arith, b, o))
 
   abbrev group : MeantChoice → List Entry
@@ -314,10 +302,7 @@ module _ (levels : List Level) (number : ℕ) (named : List NamedTerm) (items : 
       (length old.choices) c.current k.current (omega arith) k.goes_on
 
   top_is : PlainEntry (continuation_here all_named old p) ≡ PlainEntry (meant_continuation heights all_named k.current)
-  top_is =
-      let le = under_more c.items (bound_at k.start) floor c.choices.items k.choices k.captured in
-      k.entry all_named (each-more (IsNamedBelow k.start.next) (IsNamedBelow (bound_under (bound_at k.start) k.choices).next)
-      (λ n b. omega (arith, b, le)) all_named named_below)
+  top_is = k.entry all_named named_below
 
   can_be : (kind : CapturedKind) (a : MeantAlternative) → EndsDeferred a.items → MarkGuards floor k.choices a → is_guard_settled a.next (published_kind kind) ≡ true
       → CanBeBranch place kind a
