@@ -1,0 +1,6 @@
+mod ShapeLemmas
+mod LeafLemmas
+mod PendingLemmas
+mod FirstLemmas
+mod AnswerLemmas
+mod AnswerHistories
