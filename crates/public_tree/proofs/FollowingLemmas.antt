@@ -9,7 +9,7 @@ use Rattle.tree_model.specs.Legality.{is_legal}
 use Rattle.tree_model.specs.Effects.{after_event}
 use Rattle.tree_model.specs.Histories.{after_events, are_legal, tree_after, IsLegalHistory}
 use Rattle.public_tree.specs.PublicTrees.{IsRooted, IsPublicOf}
-use Rattle.public_tree.specs.Following.{tree_of, EventsFollow, KnownEventsFollow, NothingFollows, OpeningFollows}
+use Rattle.public_tree.specs.Following.{tree_of, EventsFollow, KnownEventsFollow, SeveralFollow, NothingFollows, OpeningFollows}
 use Rattle.interleaving.proofs.LegalLemmas.{opening_sound}
 use Rattle.interleaving.proofs.UnchangedPlaceLemmas.{after-last}
 
@@ -42,6 +42,29 @@ known_follow job read old new e h n =
     record {
       legal = same_legal job new.budget old.budget new.window old.window new.log.events (es ++ e ∷ []) n.budget n.window n.noted
           (one_more_legal t es e h.legal n.legal);
+      stands = subst (IsPublicOf new read) (sym tree) n.stands;
+    }
+
+several_legal : (t : TreeState) (es ds : List Event) → are_legal t es ≡ true → are_legal (after_events t es) ds ≡ true
+    → are_legal t (es ++ ds) ≡ true
+several_legal t [] ds h l = l
+several_legal t (e ∷ es) ds h l =
+    let parts = both (is_legal t e) (are_legal (after_event t e) es) h in
+    ap (λ (b : Bool). b && are_legal (after_event t e) (es ++ ds)) parts.0 ∙ several_legal (after_event t e) es ds parts.1 l
+
+after_several : (t : TreeState) (es ds : List Event) → after_events t (es ++ ds) ≡ after_events (after_events t es) ds
+after_several t [] ds = refl
+after_several t (e ∷ es) ds = after_several (after_event t e) es ds
+
+pub several_follow : SeveralFollow
+several_follow job read old new es h n =
+    let t = opening_tree job old.budget old.window in
+    let was = old.log.events in
+    let tree : tree_of job new ≡ after_events (tree_of job old) es
+    = same_tree job new.budget old.budget new.window old.window new.log.events (was ++ es) n.budget n.window n.noted ∙ after_several t was es in
+    record {
+      legal = same_legal job new.budget old.budget new.window old.window new.log.events (was ++ es) n.budget n.window n.noted
+          (several_legal t was es h.legal n.legal);
       stands = subst (IsPublicOf new read) (sym tree) n.stands;
     }
 

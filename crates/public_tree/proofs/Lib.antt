@@ -17,3 +17,7 @@ pub mod BallGateLemmas
 pub mod FallingLemmas
 mod AnsweringLemmas
 mod AnswerBallLemmas
+mod StayLemmas
+mod RunRestLemmas
+pub mod RunTakenLemmas
+mod RunBarredLemmas

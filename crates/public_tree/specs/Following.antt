@@ -1,5 +1,5 @@
 -- A public tree whose events are a legal history of a job.
-use Rattle.std.specs.Prelude.{◌≡◌, ◌≢◌, ◌⊎◌, ◌≤◌, true, false, [], length, None}
+use Rattle.std.specs.Prelude.{◌≡◌, ◌≢◌, ◌⊎◌, ◌≤◌, true, false, List, [], length, None}
 use Rattle.run_model.specs.Programs.Jobs.{Job}
 use Rattle.tree_model.specs.TreeStates.{TreeState, opening_root}
 use Rattle.tree_model.specs.Nodes.{nodes_below}
@@ -12,7 +12,7 @@ use Rattle.tree_model.specs.Events.{Event}
 use Rattle.tree_nodes.specs.TreeTables.{IsTableOf}
 use Rattle.tree_model.specs.Histories.{tree_after, IsLegalHistory}
 use Rattle.tree_nodes.specs.Bodies.{Reading}
-use Rattle.public_tree.specs.PublicTrees.{PublicView, IsPublicOf, Notes, NotesIn, IsSameTree, is_going}
+use Rattle.public_tree.specs.PublicTrees.{PublicView, IsPublicOf, Notes, NotesIn, NotesAllIn, IsSameTree, is_going}
 
 -- the tree of a job after the events that were noted
 abbrev pub tree_of : Job → PublicView → TreeState
@@ -30,6 +30,11 @@ EventsFollow = (job : Job) (read : Reading) (old new : PublicView) (e : Event) �
 abbrev pub KnownEventsFollow : Type 0
 KnownEventsFollow = (job : Job) (read : Reading) (old new : PublicView) (e : Event) → HistoryFollows job read old
     → NotesIn old new e read (tree_of job old) → HistoryFollows job read new
+
+-- several that may happen there one after the other
+abbrev pub SeveralFollow : Type 0
+SeveralFollow = (job : Job) (read : Reading) (old new : PublicView) (es : List Event) → HistoryFollows job read old
+    → NotesAllIn old new es read (tree_of job old) → HistoryFollows job read new
 
 -- or none
 abbrev pub NothingFollows : Type 0

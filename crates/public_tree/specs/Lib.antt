@@ -8,3 +8,4 @@ pub mod Publishing
 pub mod PrunedTasks
 pub mod PublicPruning
 pub mod Answering
+pub mod AnsweringAtOnce

@@ -10,6 +10,7 @@ use Rattle.tree_model.specs.Pruning.{Task}
 use Rattle.tree_model.specs.TreeStates.{TreeState, first_spot, ended}
 use Rattle.tree_model.specs.Legality.{is_spot_at, is_taken_by, taken_at, gate_of, is_frozen, is_legal}
 use Rattle.tree_model.specs.Effects.{after_event}
+use Rattle.tree_model.specs.Histories.{after_events, are_legal}
 use Rattle.tree_model.specs.SoundTrees.{IsSound, IsSoundTree}
 use Rattle.tree_nodes.specs.Bodies.{Reading}
 use Rattle.tree_nodes.specs.Rows.{AlternativeCell, PendingCell, InnerCell, ClosedCell}
@@ -62,6 +63,14 @@ pub record NotesIn (old new : PublicView) (e : Event) (read : Reading) (t : Tree
   pub window : new.window ≡ old.window
   pub legal : is_legal t e ≡ true
   pub stands : IsPublicOf new read (after_event t e)
+
+-- events that may happen one after the other in this tree have happened, and were noted
+pub record NotesAllIn (old new : PublicView) (es : List Event) (read : Reading) (t : TreeState) : Type 0 where
+  pub noted : new.log.events ≡ old.log.events ++ es
+  pub budget : new.budget ≡ old.budget
+  pub window : new.window ≡ old.window
+  pub legal : are_legal t es ≡ true
+  pub stands : IsPublicOf new read (after_events t es)
 
 -- nothing has happened
 pub record IsSameTree (old new : PublicView) : Type 0 where

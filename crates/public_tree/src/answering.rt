@@ -207,8 +207,8 @@ impl PublicTree {
     }
 }
 
-// Whether an alternative is the leftmost entry.
-fn has_turn(nodes: &Nodes, at: AltRef) -> bool
+/// Whether an alternative is the leftmost entry.
+pub(crate) fn has_turn(nodes: &Nodes, at: AltRef) -> bool
     ensures open { OnTrue result (IsOpenCell (cell_at nodes.now.rows (place_view at))) }
     ensures first { IsLeftmostAt nodes.now (place_view at) result }
 {

@@ -86,12 +86,27 @@ impl EventLog {
         ensures events { self.new.events ≡ self.old.events ++ event_view event ∷ [] }
         ensures stopped { self.new.stopped ≡ self.old.stopped }
         ensures promised { self.new.promised ≡ self.old.promised - 1 }
+        ensures room { self.old.room ≤ self.new.room + 1 }
     {
         self.promised -= 1;
         match self.events.push(event) {
             Ok(()) => {}
             Err(_) => unreachable!(),
         }
+    }
+
+    /// Notes that a task comes back, and that another one goes out and comes back.
+    pub(crate) fn note_turn(&mut self, back: Event, out: Event, again: Event)
+        requires going { self.old.stopped ≡ false }
+        requires promised { 0 < self.old.promised }
+        requires room { self.old.promised + 2 < self.old.room }
+        ensures events { self.new.events ≡ self.old.events ++ event_view back ∷ event_view out ∷ event_view again ∷ [] }
+        ensures stopped { self.new.stopped ≡ self.old.stopped }
+        ensures promised { self.new.promised ≡ self.old.promised - 1 }
+    {
+        self.note_back(back);
+        self.note_out(out);
+        self.note_back(again);
     }
 
     /// Notes that the tree was stopped.

@@ -1,15 +1,16 @@
 //! Laws of public trees: each function does nothing, and its contract is the law.
-ghost use Rattle.public_tree.specs.Following.{EventsFollow, KnownEventsFollow, NothingFollows, OpeningFollows, IsOnce, GoesOn, IsPrefix, IsRightEnd};
+ghost use Rattle.public_tree.specs.Following.{EventsFollow, KnownEventsFollow, SeveralFollow, NothingFollows, OpeningFollows, IsOnce, GoesOn, IsPrefix, IsRightEnd};
 
 use interleaving::laws::histories::{histories_end_right, histories_keep_prefixes};
 use interleaving::laws::trees::{handed_out_once, never_stuck};
 
-/// A tree that was opened for a job stands for the job's tree. Once a call has noted one event more, or none, it stands for
-/// the tree after the events that were noted, and these are a legal history.
+/// A tree that was opened for a job stands for the job's tree. Once a call has noted one event more, several, or none, it stands
+/// for the tree after the events that were noted, and these are a legal history.
 pub fn histories_stay_legal()
     ensures opening { OpeningFollows }
     ensures event { EventsFollow }
     ensures known { KnownEventsFollow }
+    ensures several { SeveralFollow }
     ensures nothing { NothingFollows }
 {}
 

@@ -10,6 +10,7 @@
 #![tactic(auto)]
 
 mod answering;
+mod answering_at_once;
 mod closing;
 mod event_log;
 mod hand_out;
@@ -22,6 +23,7 @@ mod public;
 mod publishing;
 
 pub use answering::Answering;
+pub use answering_at_once::RunAnswering;
 pub use closing::TaskEnd;
 pub use prune::Pruning;
 pub use public::PublicTree;

@@ -6,3 +6,4 @@ mod TurnLemmas
 mod OpenLemmas
 mod PromiseLemmas
 mod OutLemmas
+mod RunTurnLemmas

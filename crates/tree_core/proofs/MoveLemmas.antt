@@ -35,7 +35,7 @@ legal_parts t e l =
     let allowed = both (is_none (ended t)) (is_allowed t e) parts.1 in
     (ap (λ (b : Bool). b && is_none (ended t)) parts.0 ∙ allowed.0, allowed.1)
 
-same_history : (job : Job) (b c v w : ℕ) (es ds : List Event) → b ≡ c → v ≡ w → es ≡ ds
+pub same_history : (job : Job) (b c v w : ℕ) (es ds : List Event) → b ≡ c → v ≡ w → es ≡ ds
     → ◌≡◌ {A = History} (record { job = job; budget = b; window = v; events = es }) (record { job = job; budget = c; window = w; events = ds })
 same_history job b c v w es ds e f g = cc
 
@@ -151,7 +151,7 @@ module _ (once : Once) (job : Job) (p : PublicView) (h : IsTreeOf job p) (e : Ev
       by_handed None f d = absurd (d refl)
       by_handed (Some x) f d = out_is_among a p.log.events w (f ∙ ap (λ (y : Handed). Some y) (back.returns x d))
 
-  fewer : length (out_by e (out_after p.log.events [])) + 1 ≡ length (out_after p.log.events [])
+  pub fewer : length (out_by e (out_after p.log.events [])) + 1 ≡ length (out_after p.log.events [])
   fewer = ap (λ (places : List Place). length places + 1) (back.drops (out_after p.log.events [])) ∙ one_less a (out_after p.log.events []) is_out
 
   pub room_to_come_back : 0 < p.log.promised

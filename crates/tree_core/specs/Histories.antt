@@ -25,6 +25,9 @@ state_of h = tree_after h.job h.budget h.window h.events
 abbrev pub with_event : Event → History → History
 with_event e h = record h { events = h.events ++ e ∷ [] }
 
+abbrev pub with_events : List Event → History → History
+with_events es h = record h { events = h.events ++ es }
+
 -- with an event where the tree has neither ended nor been stopped
 abbrev pub while_going : Event → History → History
 while_going e h = cond (is_going (state_of h)) (with_event e h) h

@@ -10,6 +10,7 @@
 mod brand;
 mod closing;
 mod front;
+mod front_runs;
 mod hand_out;
 mod pruning;
 mod query;

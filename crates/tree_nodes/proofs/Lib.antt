@@ -23,3 +23,4 @@ pub mod FrontLemmas
 pub mod FrontKeptLemmas
 pub mod TakeBackLemmas
 pub mod CellLemmas
+pub mod SkipLemmas

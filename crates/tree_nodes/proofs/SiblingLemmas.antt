@@ -11,7 +11,7 @@ use Rattle.tree_nodes.specs.declared.siblings.Passed.{Passed}
 use Rattle.tree_nodes.specs.declared.siblings.Alternative.{Alternative}
 use Rattle.tree_nodes.specs.Rows.{AlternativeCell, cell_view}
 use Rattle.tree_nodes.specs.Gathering.{is_shut, are_shut, shut_beside}
-use Rattle.tree_nodes.specs.Siblings.{closed_counts, counts_from, one_open, open_count, ArePassed, AreCounted, alternative_view}
+use Rattle.tree_nodes.specs.Siblings.{closed_counts, counts_from, one_open, open_count, ArePassed, AreCounted, CountsAs, alternative_view}
 
 abbrev Cell : Type 0
 Cell = ℕ × AlternativeCell
@@ -90,6 +90,31 @@ passed-set cells p i now l len h =
       shut = ap are_shut same ∙ h.shut;
       counts = ap (counts_from (0, 0)) same ∙ h.counts;
     }
+
+-- one that counts as the one before it
+module _ (was now : Cell) (k : CountsAs was.1 now.1) where
+  shut-as : (cells : List Cell) (m i : ℕ) → slice_get cells i ≡ Some was → are_shut (take m (slice_set cells i now)) ≡ are_shut (take m cells)
+  shut-as [] m i e = absurd (cc e)
+  shut-as (x ∷ cells) zero i e = refl
+  shut-as (x ∷ cells) (suc m) zero e =
+      let same : x ≡ was = (cc e) in
+      ap (λ (b : Bool). b && are_shut (take m cells)) (k.now_shut ∙ (sym k.was_shut ∙ ap (λ (c : Cell). is_shut c.1) (sym same)))
+  shut-as (x ∷ cells) (suc m) (suc i) e = ap (λ (b : Bool). is_shut x.1 && b) (shut-as cells m i e)
+
+  counts-as : (n : ℕ × ℕ) (cells : List Cell) (m i : ℕ) → slice_get cells i ≡ Some was
+      → counts_from n (take m (slice_set cells i now)) ≡ counts_from n (take m cells)
+  counts-as n [] m i e = absurd (cc e)
+  counts-as n (x ∷ cells) zero i e = refl
+  counts-as n (x ∷ cells) (suc m) zero e =
+      let same : x ≡ was = (cc e) in
+      ap (λ (c : ℕ × ℕ). counts_from (counted n.0 c.0, counted n.1 c.1) (take m cells)) (sym k.counts ∙ ap (λ (c : Cell). closed_counts c.1) (sym same))
+  counts-as n (x ∷ cells) (suc m) (suc i) e = counts-as (counted n.0 (closed_counts x.1).0, counted n.1 (closed_counts x.1).1) cells m i e
+
+  pub passed-as : (cells : List Cell) (p : Passed) (i : ℕ) → slice_get cells i ≡ Some was → ArePassed cells p → ArePassed (slice_set cells i now) p
+  passed-as cells p i e h =
+      let many = h.many in
+      let len = length-set cells i now in
+      record { many = omega (arith, many, len); shut = shut-as cells p.many i e ∙ h.shut; counts = counts-as (0, 0) cells p.many i e ∙ h.counts }
 
 pub passed-front : (front : List Cell) (last : Cell) (p : Passed) → p.many ≤ length front → ArePassed (front ++ last ∷ []) p → ArePassed front p
 passed-front front last p l h =
@@ -199,7 +224,3 @@ module _ (items : List Alternative) (i : ℕ) (was now : Alternative) (m : ℕ) 
       let c = length-map (slice_set items i now) alternative_view in
       let d = length-set items i now in
       omega (arith, a, b, c, d)
-
-  pub put_passed : p.many ≤ i → ArePassed (map alternative_view (slice_set items i now)) p
-  put_passed d = subst (λ (x : List Cell). ArePassed x p) (sym cells_put)
-      (passed-set (map alternative_view items) p i (alternative_view now) d (length-set (map alternative_view items) i (alternative_view now)) k.passed)

@@ -13,3 +13,4 @@ pub mod Held
 pub mod Batches
 pub mod Gaps
 pub mod TakingBack
+pub mod Skipping

@@ -25,6 +25,12 @@ abbrev pub counts_from : ℕ × ℕ → List (ℕ × AlternativeCell) → ℕ ×
 counts_from n [] = n
 counts_from n (c ∷ cells) = counts_from (counted n.0 (closed_counts c.1).0, counted n.1 (closed_counts c.1).1) cells
 
+-- both have closed, with the same counts
+pub record CountsAs (was now : AlternativeCell) : Type 0 where
+  pub was_shut : is_shut was ≡ true
+  pub now_shut : is_shut now ≡ true
+  pub counts : closed_counts was ≡ closed_counts now
+
 -- how many have not closed
 abbrev pub one_open : AlternativeCell → ℕ
 one_open c = cond (is_shut c) 0 1

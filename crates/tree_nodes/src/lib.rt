@@ -17,7 +17,7 @@
 //! | `set`, `take_back` | what they drop |
 //! | `close`, where no node folds | what it drops: the same for a node of any width, at any depth |
 //! | `close`, where nodes fold | besides their alternatives, and the batches of the records beside each other there |
-//! | `give_back` | the numbers that are given back |
+//! | `skip`, `give_back` | the numbers |
 //!
 //! Where one that had closed is opened again, what was known of the breaks at its node is forgotten, and a walk goes over
 //! what has closed there. Each node comes to the front once, and leaves it when it goes; where what was spent on a node's
@@ -34,6 +34,7 @@ mod gather;
 mod held;
 mod merging;
 pub mod nodes;
+mod numbers;
 pub mod records;
 mod row;
 pub mod siblings;

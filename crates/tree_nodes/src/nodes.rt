@@ -11,7 +11,7 @@ ghost use Rattle.tree_nodes.specs.RowViews.{row_view, parent_view, branches_at};
 ghost use Rattle.tree_nodes.specs.TreeTables.{NodesView, Stand};
 ghost use Rattle.std.specs.Arc.{arc_value};
 ghost use Rattle.tree_nodes.specs.Bodies.{body_view, IsWhole};
-ghost use Rattle.tree_nodes.specs.Changes.{SetsCell, Fits, KeepsNumbers, Adds, CanHold, IsLonger, ClosesAt, LowersSpare, AreGone, GivesBack, is_pending};
+ghost use Rattle.tree_nodes.specs.Changes.{SetsCell, Fits, KeepsNumbers, Adds, CanHold, IsLonger, ClosesAt, LowersSpare, is_pending};
 ghost use Rattle.tree_nodes.specs.Folds.{FoldsUpTo, ClosesWithRecords, AreWithoutRecords, IsAbove, IsDeeper};
 ghost use Rattle.tree_nodes.specs.Fronts.{HasOpenLeft, KeepsFront, IsFront, IsNextOf};
 ghost use Rattle.tree_nodes.specs.Siblings.{ArePassed, alternative_view};
@@ -36,7 +36,7 @@ use tree_model::AltRef;
 /// The nodes of a tree. Contracts see the table, and speak of the tree for which it stands.
 #[derive(Drop)]
 pub struct Nodes {
-    table: Table,
+    pub(crate) table: Table,
     first: Option<u64>,
     live: u64,
     spare: u64,
@@ -417,15 +417,6 @@ impl Nodes {
         self.live = live;
         self.advance();
         Ok(number)
-    }
-
-    /// Gives back the numbers from this one on, none of which names a node. So what was added and dropped again leaves no
-    /// trace.
-    pub fn give_back(&mut self, next: u64)
-        requires { AreGone self.old.rows next }
-        ensures { GivesBack self.old self.new next }
-    {
-        self.table.truncate(next);
     }
 
     /// Closes an alternative, and drops what stood below it. Where all alternatives of a node below another have then

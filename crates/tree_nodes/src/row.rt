@@ -88,6 +88,13 @@ pub(crate) enum Shortened {
 }
 
 impl Slot {
+    /// The place of a node that is gone.
+    pub(crate) fn gone() -> Slot
+        ensures { result ≡ None }
+    {
+        Slot { row: None }
+    }
+
     /// The row of a new node.
     pub(crate) fn new(
         alloc: Global,

@@ -1,5 +1,6 @@
 //! The alternatives of a node, from left to right.
 ghost use Rattle.std.specs.Prelude.{◌≡◌, ◌≢◌, ◌<◌, ◌≤◌, ◌+◌, ◌++◌, ◌∷◌, [], length, map, slice_get, slice_set, Some, IfOk, OnOk, OnErr, MatchOption};
+ghost use Rattle.std.specs.Bool.{OnTrue};
 ghost use Rattle.std.specs.Option.{option_map, option_copied};
 ghost use Rattle.tree_nodes.specs.Rows.{cell_view, credit_view};
 ghost use Rattle.tree_nodes.specs.RowViews.{inner_of};
@@ -7,7 +8,7 @@ ghost use Rattle.tree_nodes.specs.Changes.{is_pending_cell};
 ghost use Rattle.tree_nodes.specs.Gathering.{closed_in, is_shut, with_left, with_right_credits, shut_beside, with_beside};
 ghost use Rattle.tree_nodes.specs.Gaps.{IsNextAfter};
 ghost use Rattle.tree_nodes.specs.Held.{AreHeldAmong};
-ghost use Rattle.tree_nodes.specs.Siblings.{alternative_view, closed_counts, one_open, open_count, ArePassed};
+ghost use Rattle.tree_nodes.specs.Siblings.{alternative_view, closed_counts, one_open, open_count, ArePassed, CountsAs};
 
 use crate::gaps::{Gap, no_gaps, regap, right_gap};
 use crate::gather::Gathered;
@@ -75,6 +76,13 @@ impl Alternative {
             AltState::Closed(credit) => (credit.answers, credit.inferences),
             _ => (0, 0),
         }
+    }
+
+    // Whether both have closed with the same answers and inferences.
+    fn counts_as(&self, other: &Alternative) -> bool
+        ensures { OnTrue result (CountsAs (cell_view self.now.state) (cell_view other.now.state)) }
+    {
+        self.is_closed() && other.is_closed() && self.counts() == other.counts()
     }
 }
 
@@ -208,16 +216,24 @@ impl Siblings {
         let _many = self.items.len();
         let now = alternative.open_one();
         let shut = alternative.is_closed();
+        let from = self.passed_with(index, &alternative);
         let before = mem::replace(&mut self.items[index], alternative);
         self.many_open = self.many_open - before.open_one() + now;
-        let from = if index < self.passed.many {
-            Passed::NONE
-        } else {
-            self.passed
-        };
         self.passed = pass(&self.items, from);
         regap(&mut self.gaps, index, before.is_closed(), shut);
         let_go(before);
+    }
+
+    // What stays passed where another is put in place of one.
+    fn passed_with(&self, index: usize, alternative: &Alternative) -> Passed
+        requires { index < length self.now }
+        ensures { ArePassed (slice_set self.now index (alternative_view alternative.now)) result }
+    {
+        if index < self.passed.many && !self.items[index].counts_as(alternative) {
+            Passed::NONE
+        } else {
+            self.passed
+        }
     }
 
     /// Takes off the last one.

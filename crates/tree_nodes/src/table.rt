@@ -12,6 +12,7 @@ ghost use Rattle.tree_nodes.specs.Drops.{IsShortenedAt};
 ghost use Rattle.tree_nodes.specs.Gaps.{IsNextAfter};
 ghost use Rattle.tree_nodes.specs.Held.{is_waiting, HasNone};
 ghost use Rattle.tree_nodes.specs.Puts.{IsReplaced};
+ghost use Rattle.tree_nodes.specs.Skipping.{no_rows};
 
 use crate::held::Held;
 use crate::row::{Row, Shortened, Slot};
@@ -128,6 +129,14 @@ impl Table {
         Ok(())
     }
 
+    /// Appends so many rows of nodes that are gone.
+    pub(crate) fn skip(&mut self, count: usize) -> Result<(), NoMemory>
+        ensures ok { OnOk result (self.new ≡ self.old ++ no_rows count) }
+        ensures err { OnErr result (self.new ≡ self.old) }
+    {
+        push_gone(&mut self.slots, count)
+    }
+
     /// Puts another in place of an alternative, and names the node that was below it.
     pub(crate) fn replace(&mut self, at: AltRef, alternative: Alternative) -> Option<u64>
         requires there { IsSome (cell_at self.old (place_view at)) }
@@ -164,4 +173,15 @@ impl Table {
     {
         self.slots.truncate(next as usize);
     }
+}
+
+fn push_gone(slots: &mut Vec<Slot>, count: usize) -> Result<(), NoMemory>
+    ensures ok { OnOk result (slots.new.items ≡ slots.old.items ++ no_rows count) }
+    ensures err { OnErr result (slots.new.items ≡ slots.old.items) }
+{
+    slots.try_reserve(count)?;
+    for _i in 0..count {
+        slots.push_reserved(Slot::gone());
+    }
+    Ok(())
 }

@@ -10,7 +10,7 @@ use tree_closing::{Beside, body_of_one, find_rest, settle, wake};
 use tree_model::AltRef;
 use tree_nodes::{Credit, NodeKind, Nodes};
 
-fn catch(rt: &impl Abort, alloc: Global) -> Result<NodeKind, Fail> {
+pub(crate) fn catch(rt: &impl Abort, alloc: Global) -> Result<NodeKind, Fail> {
     Ok(NodeKind::Catch {
         catcher: shared(rt, alloc, 1)?,
         recovery: shared(rt, alloc, 2)?,

@@ -4,10 +4,10 @@ use Rattle.tree_nodes.specs.Gaps.{shut_or_past, AreGaps}
 use Rattle.tree_nodes.proofs.SiblingLemmas.{item_at}
 use Rattle.std.proofs.lemmas.List.{length-map, map-set}
 use Rattle.tree_nodes.specs.declared.siblings.Alternative.{Alternative}
+use Rattle.tree_nodes.specs.Rows.{AlternativeCell}
 use Rattle.tree_nodes.specs.Siblings.{alternative_view, ArePassed}
-use Rattle.tree_nodes.proofs.SiblingLemmas.{put_below, put_open, put_bound, put_passed, none_passed}
+use Rattle.tree_nodes.proofs.SiblingLemmas.{put_below, put_open, put_bound}
 use Rattle.tree_nodes.proofs.siblings.Siblings.put.Goals as goal
-use Rattle.tree_nodes.proofs.siblings.Siblings.put.Goals.{then-index-self, else-index-self}
 
 read : (items : List Alternative) (i : ℕ) (was there : Alternative) → was ≡ there → there ≡ get_or items i there → was ≡ get_or items i was
 read items i was there e h = e ∙ (h ∙ ap (get_or items i) (sym e))
@@ -47,22 +47,14 @@ overflow_add-self c =
 pub pass-self-inside-requires : goal.pass-self-inside-requires
 pass-self-inside-requires c =
     let items = c.self.inside.items.items in
-    let m = c.self.inside.many_open in
-    let p = c.self.inside.passed in
-    let was = c.replace-before.result in
     let now = c.args.alternative in
-    let len = length-map items alternative_view in
-    let req : c.args.index < length (map alternative_view items) = rw (c.self.view_is) c.requires in
-    let l : c.args.index < length items = omega (arith, len, req) in
-    let e : was ≡ get_or items c.args.index was = read items c.args.index was c.index_mut.result.now c.replace-before.ensures.value c.index_mut.ensures.value in
+    let from = c.passed_with-from.result in
     let dest : c.deref.result.now ≡ slice_set items c.args.index now
     = c.deref.ensures.value ∙ ap (slice_set items c.args.index) c.replace-before.ensures.after in
-    let from : ArePassed (map alternative_view (slice_set items c.args.index now)) c.if-index-self.from = elim c.if-index-self.branch [
-      | then-index-self w ↦ subst (ArePassed (map alternative_view (slice_set items c.args.index now))) (sym w.from-is) (none_passed _)
-      | else-index-self w ↦ subst (ArePassed (map alternative_view (slice_set items c.args.index now))) (sym w.from-is)
-          (put_passed items c.args.index was now m p l e c.self.invariant.counted w.if-index-self.false)
-    ] in
-    subst (λ (x : List Alternative). ArePassed (map alternative_view x) c.if-index-self.from) (sym dest) from
+    let stays : ArePassed (slice_set (map alternative_view items) c.args.index (alternative_view now)) from
+    = subst (λ (x : List (ℕ × AlternativeCell)). ArePassed (slice_set x c.args.index (alternative_view now)) from) (sym c.self.view_is) c.passed_with-from.ensures in
+    subst (λ (x : List Alternative). ArePassed (map alternative_view x) from) (sym dest)
+    (subst (λ (x : List (ℕ × AlternativeCell)). ArePassed x from) (sym (map-set alternative_view items c.args.index now)) stays)
 
 pub invariant_of-self : goal.invariant_of-self
 invariant_of-self c =
