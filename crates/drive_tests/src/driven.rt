@@ -90,6 +90,29 @@ fn terms_and_random_texts(rt: HostRuntime) -> Result<(), Fail> {
     Ok(())
 }
 
+/// Answers after catches whose goals have ended.
+static AFTER_CATCHES: [&str; 5] = [
+    "?- catch(true, _, true).",
+    "?- catch(catch(true, _, true), _, true), catch(true, _, true). ?- X = 1.",
+    "p(1). p(2). ?- catch(p(X), _, true). ?- catch((p(X), X > 1), _, true).",
+    "?- catch(true, _, true), write(a), catch(true, _, true).",
+    "?- findall(X, catch(X = 1, _, true), L), catch(L = [Y], _, true).",
+];
+
+/// With every budget up to where the run finishes, and past that.
+#[test]
+fn answers_after_catches(rt: HostRuntime) -> Result<(), Fail> {
+    for text in AFTER_CATCHES {
+        for budget in 1..24 {
+            assert!(rt;
+                is_driven_alike(rt.alloc(), text, budget)?,
+                "{text} {budget}"
+            );
+        }
+    }
+    Ok(())
+}
+
 /// How the run of a text ends, and how many bytes its sink takes, which has room for so many.
 fn end_in_room(alloc: Global, text: &str, out: &mut MemorySink) -> Result<(RunEnd, usize), Fail> {
     let job = job_of(alloc, text)?;

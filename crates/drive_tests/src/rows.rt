@@ -126,7 +126,7 @@ fn cut_while_out(rt: HostRuntime) -> Result<(), Fail> {
 }
 
 /// How many turns one worker takes to the end, how that is, and what was written. In a turn an alternative goes out and comes back:
-/// two events.
+/// two events, or four where an answer is taken at once.
 fn turns_taken<J: JobBrand>(
     alloc: Global,
     job: Job,
@@ -159,24 +159,47 @@ static COUNTED: [(u64, u32, RunEnding, &str); 2] = [
     (3_003, 3, RunEnding::Budget, "true\n"),
 ];
 
-/// Whether the run of that within a budget takes so many turns, ends so, and writes this.
+/// An answer after a catch whose goal has ended is taken in the turn that runs up to it, where the budget lasts to that, its third
+/// inference.
+static AFTER_CATCH: [(u64, u32, RunEnding, &str); 3] = [
+    (4, 2, RunEnding::Finished, "true\nno\n"),
+    (3, 1, RunEnding::Budget, "true\n"),
+    (2, 1, RunEnding::Budget, ""),
+];
+
+/// Whether the run of a text within a budget takes so many turns, ends so, and writes this.
 fn is_counted(
     alloc: Global,
+    text: &str,
     budget: u64,
     turns: u32,
     end: RunEnding,
     lines: &str,
 ) -> Result<bool, Fail> {
-    let job = job_of(alloc, "c(0). c(N) :- N > 0, M is N - 1, c(M). ?- c(1000).")?;
+    let job = job_of(alloc, text)?;
     let (taken, ended, written) = turns_taken::<Brand>(alloc, job, budget)?;
     Ok(taken == turns && ended == end && written.as_slice() == lines.as_bytes())
 }
 
 #[test]
-fn events_of_a_recursion(rt: HostRuntime) -> Result<(), Fail> {
+fn turns_to_the_end(rt: HostRuntime) -> Result<(), Fail> {
+    let text = "c(0). c(N) :- N > 0, M is N - 1, c(M). ?- c(1000).";
     for (budget, turns, end, lines) in COUNTED {
         assert!(rt;
-            is_counted(rt.alloc(), budget, turns, end, lines)?,
+            is_counted(rt.alloc(), text, budget, turns, end, lines)?,
+            "{budget}"
+        );
+    }
+    for (budget, turns, end, lines) in AFTER_CATCH {
+        assert!(rt;
+            is_counted(
+                rt.alloc(),
+                "?- catch(true, _, true).",
+                budget,
+                turns,
+                end,
+                lines
+            )?,
             "{budget}"
         );
     }

@@ -27,7 +27,7 @@ use Rattle.task_region.specs.TaskViews.{TaskView}
 use Rattle.task_region.specs.declared.running.TaskStop.{TaskStop}
 use Rattle.task_region.specs.declared.running.TaskStop.TheVariants.{World, Removal, Answer}
 use Rattle.scheduler.specs.FrontTurns.{EndsStep, FailsStep, IsOutStill, IsStepOpen, IsTaskAtWorld}
-use Rattle.scheduler.specs.GivenBack.{IsGivenBack}
+use Rattle.scheduler.specs.GivenBack.{IsGivenBackOnce}
 use Rattle.scheduler.specs.JobRuns.{IsJobRun}
 use Rattle.scheduler.specs.declared.job_run.JobRun.{JobRun}
 use Rattle.scheduler.proofs.BackLemmas.{legal_where}
@@ -192,7 +192,7 @@ module _ (v0 v1 : TreeView) (w : ℕ) (a : Place) (out : IsOutStill v0 w a) (gat
     has_failed (Closes closing) c k = k ∙ ap (λ (x : TreeView). x.history) c.0
 
 -- by one event
-pub come_back : (old new : History) (w : ℕ) (a : Place) (step : FrontStep) → HasComeTo old new w a step → IsGivenBack old new a
+pub come_back : (old new : History) (w : ℕ) (a : Place) (step : FrontStep) → HasComeTo old new w a step → IsGivenBackOnce old new a
 come_back old new w a (Done answering.Taken) h = record { back = front_event w a; noted = h.noted; gives = place_self a }
 come_back old new w a (Done answering.NotLeftmost) h = record { back = Suspend w a false; noted = h.noted; gives = place_self a }
 come_back old new w a (Done answering.HasEnded) h = absurd h

@@ -6,6 +6,7 @@ mod FrontLemmas
 mod EndLemmas
 mod NameLemmas
 mod CloseLemmas
+mod LaterLemmas
 mod FirstLemmas
 mod PieceLemmas
 mod TurnLemmas

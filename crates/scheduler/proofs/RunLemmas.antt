@@ -1,11 +1,11 @@
 -- What a job is run with stays that of the tree.
-use Rattle.std.proofs.Common.{◌≡◌, ◌≤◌, ℕ, List, length, drop, refl, sym, ap, ◌∙◌, subst}
+use Rattle.std.proofs.Common.{◌≡◌, ◌≤◌, inl, inr, ℕ, List, length, drop, refl, sym, ap, ◌∙◌, subst}
 use Rattle.std.specs.Prelude.{◌||◌, OnErr, OnOk, Result, Ok, Err}
 use Rattle.effect_gate.specs.Effects.{statics_of, world_meant}
 use Rattle.effect_gate.specs.declared.world.World.{World as KeptWorld}
 use Rattle.dyn_clauses.specs.DatabaseView.{is_static}
 use Rattle.run_model.specs.Goals.Worlds.{is_reserved, static_among}
-use Rattle.scheduler.specs.GivenBack.{IsGivenBack, IsGivenBackAlone, IsSameJob}
+use Rattle.scheduler.specs.GivenBack.{IsGivenBack, IsGivenBackAlone, IsGivenBackOnce, IsSameJob}
 use Rattle.scheduler.specs.JobRuns.{EventsLeaveRuns, IsJobRun}
 use Rattle.scheduler.specs.declared.job_run.JobRun.{JobRun}
 use Rattle.scheduler.proofs.EventLemmas.{noted_same}
@@ -36,11 +36,16 @@ run_left old new e run alone noted k =
 pub run_alone : (h new : History) (a : Place) (run : JobRun) → IsJobRun h run → IsGivenBackAlone h new a → IsJobRun new run
 run_alone h new a run k back = run_left h new back.back run back.alone back.noted k
 
-pub gives_back : (h new : History) (a : Place) → IsGivenBackAlone h new a → IsGivenBack h new a
+pub gives_back : (h new : History) (a : Place) → IsGivenBackAlone h new a → IsGivenBackOnce h new a
 gives_back h new a back = record { back = back.back; noted = back.noted; gives = back.gives }
 
 pub same_job : (h new : History) (a : Place) → IsGivenBack h new a → IsSameJob h new
-same_job h new a back = record {
+same_job h new a (inl back) = record {
+  job = ap (λ (x : History). x.job) back.noted;
+  budget = ap (λ (x : History). x.budget) back.noted;
+  window = ap (λ (x : History). x.window) back.noted;
+}
+same_job h new a (inr back) = record {
   job = ap (λ (x : History). x.job) back.noted;
   budget = ap (λ (x : History). x.budget) back.noted;
   window = ap (λ (x : History). x.window) back.noted;

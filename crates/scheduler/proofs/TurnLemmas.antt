@@ -1,5 +1,5 @@
 -- Turns keep what a driven tree has.
-use Rattle.std.proofs.Common.{◌≡◌, ◌≢◌, ◌||◌, Bool, true, false, cond, List, [], ◌∷◌, ◌++◌, Option, Some, None, refl, sym, ap, ◌∙◌}
+use Rattle.std.proofs.Common.{◌≡◌, ◌≢◌, ◌||◌, inl, inr, ℕ, append_assoc, Bool, true, false, cond, List, [], ◌∷◌, ◌++◌, Option, Some, None, refl, sym, ap, ◌∙◌}
 use Rattle.std.specs.List.{list_any}
 use Rattle.std.specs.Option.{option_map}
 use Rattle.tree_model.specs.Events.{Event, Claim, Nodes, Empty, Collected, Lost, Suspend, Resume, Prune, Answer, Stop}
@@ -9,8 +9,10 @@ use Rattle.public_tree.specs.PublicTrees.{is_going}
 use Rattle.tree_core.specs.HandOuts.{offered_at}
 use Rattle.tree_core.specs.Histories.{History, state_of}
 use Rattle.tree_core.specs.TasksOut.{out_after}
-use Rattle.hand_out_laws.specs.HandedBack.{hands_out, gives_back, is_stop, OneGoesOut, OneComesBack, OnlyStopsStop}
-use Rattle.scheduler.specs.GivenBack.{IsGivenBack, leaves_world}
+use Rattle.hand_out_laws.specs.HandedBack.{hands_out, gives_back, is_stop, OneGoesOut, OneComesBack, OnlyStopsStop, TurnsBack}
+use Rattle.interleaving.proofs.UnchangedPlaceLemmas.{place_self}
+use Rattle.public_tree.specs.AnsweringAtOnce.{answer_sizes, leaf_place}
+use Rattle.scheduler.specs.GivenBack.{IsAnsweredBack, IsGivenBack, IsGivenBackOnce, leaves_world}
 use Rattle.scheduler.specs.JobRuns.{EventsLeaveRuns, IsJobRun}
 use Rattle.scheduler.specs.declared.job_run.JobRun.{JobRun}
 use Rattle.scheduler.specs.Driving.{GoesOut, IsDriven}
@@ -69,13 +71,61 @@ out_unstopped old new a d g =
 pub over : (old new : History) (a : Place) → IsDriven old → GoesOut old new a → is_going (state_of new) ≡ false → IsDriven new
 over old new a d g ends = record { unstopped = out_unstopped old new a d g; back = λ goes. let no_way : ⊥ = cc in absurd no_way }
 
--- and it comes back
-pub back_again : OneGoesOut → OneComesBack → (old out new : History) (a : Place) → IsDriven old → is_going (state_of old) ≡ true → GoesOut old out a → IsGivenBack out new a
-    → IsDriven new
-back_again one back old out new a d going g b = record {
-  unstopped = ap (λ (h : History). list_any is_stop h.events) b.noted ∙ no_stop_more out.events b.back (out_unstopped old out a d g) (back_no_stop a b.back b.gives);
-  back = λ goes. ap (λ (h : History). out_after h.events []) b.noted ∙ back out.events a b.back (out_alone one old out a d going g) b.gives;
-}
+-- and it comes back, by its own events
+with_three : (es : List Event) (x y z : Event) → es ++ x ∷ y ∷ z ∷ [] ≡ (es ++ x ∷ []) ++ y ∷ z ∷ []
+with_three es x y z = sym (append_assoc es (x ∷ []) (y ∷ z ∷ []))
+
+module _ (one : OneGoesOut) (back : OneComesBack) (turn : TurnsBack) (old out new : History) (a : Place) (d : IsDriven old) (going : is_going (state_of old) ≡ true)
+    (g : GoesOut old out a) where
+  back_once : IsGivenBackOnce out new a → IsDriven new
+  back_once b = record {
+    unstopped = ap (λ (h : History). list_any is_stop h.events) b.noted ∙ no_stop_more out.events b.back (out_unstopped old out a d g) (back_no_stop a b.back b.gives);
+    back = λ goes. ap (λ (h : History). out_after h.events []) b.noted ∙ back out.events a b.back (out_alone one old out a d going g) b.gives;
+  }
+
+  module _ (b : IsAnsweredBack out new a) where
+    abbrev sizes : List ℕ
+    sizes = answer_sizes b.recoveries
+
+    abbrev leaf : Place
+    leaf = leaf_place (state_of out).next b.recoveries
+
+    abbrev publishing : Event
+    publishing = Nodes b.worker a b.inferences sizes
+
+    abbrev claiming : Event
+    claiming = Claim b.worker leaf
+
+    abbrev answering : Event
+    answering = Answer b.worker leaf false
+
+    events_are : new.events ≡ (out.events ++ publishing ∷ []) ++ claiming ∷ answering ∷ []
+    events_are = ap (λ (h : History). h.events) b.noted ∙ with_three out.events publishing claiming answering
+
+    public_unstopped : list_any is_stop (out.events ++ publishing ∷ []) ≡ false
+    public_unstopped = no_stop_more out.events publishing (out_unstopped old out a d g) refl
+
+    all_unstopped : list_any is_stop ((out.events ++ publishing ∷ []) ++ claiming ∷ answering ∷ []) ≡ false
+    all_unstopped =
+        ap (list_any is_stop) (sym (append_assoc (out.events ++ publishing ∷ []) (claiming ∷ []) (answering ∷ [])))
+        ∙ no_stop_more ((out.events ++ publishing ∷ []) ++ claiming ∷ []) answering
+        (no_stop_more (out.events ++ publishing ∷ []) claiming public_unstopped refl) refl
+
+    public_back : out_after (out.events ++ publishing ∷ []) [] ≡ []
+    public_back = back out.events a publishing (out_alone one old out a d going g) (place_self a)
+
+    back_answered : IsDriven new
+    back_answered = record {
+      unstopped = ap (list_any is_stop) events_are ∙ all_unstopped;
+      back = λ goes.
+          ap (λ es. out_after es []) events_are
+          ∙ turn (out.events ++ publishing ∷ []) claiming answering public_back
+          (record { place = leaf; goes_out = place_self leaf; comes_back = place_self leaf });
+    }
+
+  pub back_again : IsGivenBack out new a → IsDriven new
+  back_again (inl b) = back_once b
+  back_again (inr b) = back_answered b
 
 -- one that has not ended goes on
 pub goes_on : OnlyStopsStop → (h : History) → IsDriven h → ended (state_of h) ≡ None → is_going (state_of h) ≡ true

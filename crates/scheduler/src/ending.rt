@@ -7,7 +7,7 @@ ghost use Rattle.tree_model.specs.Legality.{taken_at};
 ghost use Rattle.public_tree.specs.PublicTrees.{is_going};
 ghost use Rattle.tree_core.specs.Histories.{state_of};
 ghost use Rattle.task_world.specs.OutTasks.{EndsQueryAt};
-ghost use Rattle.scheduler.specs.GivenBack.{IsGivenBack};
+ghost use Rattle.scheduler.specs.GivenBack.{IsGivenBackOnce};
 ghost use Rattle.scheduler.specs.JobRuns.{IsJobRun};
 ghost use Rattle.scheduler.specs.QueriesLeft.{CountsOpened};
 
@@ -35,7 +35,7 @@ pub(crate) fn serve_end<J: JobBrand>(
     requires run { IsJobRun tree.old.history run.old }
     requires ends { EndsQueryAt worker (place_view at) ball (state_of tree.old.history) }
     ensures run { OnOk result (IsJobRun tree.new.history run.new) }
-    ensures back { OnOk result (IsGivenBack tree.old.history tree.new.history (place_view at)) }
+    ensures back { OnOk result (IsGivenBackOnce tree.old.history tree.new.history (place_view at)) }
     ensures err { OnErr result (tree.new.history ≡ tree.old.history) }
 {
     let count = run.queries.len();

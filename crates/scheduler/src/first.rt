@@ -5,7 +5,7 @@ ghost use Rattle.tree_model.specs.Legality.{taken_at};
 ghost use Rattle.public_tree.specs.PublicTrees.{is_going};
 ghost use Rattle.tree_core.specs.Histories.{state_of};
 ghost use Rattle.task_region.specs.TaskStops.{IsLimit};
-ghost use Rattle.scheduler.specs.GivenBack.{IsGivenBack};
+ghost use Rattle.scheduler.specs.GivenBack.{IsGivenBackOnce};
 ghost use Rattle.scheduler.specs.JobRuns.{IsJobRun};
 ghost use Rattle.scheduler.specs.StoppedTasks.{HasStoppedOut};
 
@@ -41,7 +41,7 @@ pub(crate) fn serve_first<J: JobBrand>(
     requires none { stopped.taken ≡ 0 }
     requires unlimited { IsLimit stopped.stop → ⊥ }
     ensures run { OnOk result (IsJobRun tree.new.history run.new) }
-    ensures back { OnOk result (IsGivenBack tree.old.history tree.new.history (place_view at)) }
+    ensures back { OnOk result (IsGivenBackOnce tree.old.history tree.new.history (place_view at)) }
     ensures err { OnErr result (tree.new.history ≡ tree.old.history) }
 {
     stops_are_gates();

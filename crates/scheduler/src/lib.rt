@@ -1,8 +1,9 @@
 //! Drives a job on the shared tree to its end, by one worker: it takes the next alternative, serves it, and puts out what was
 //! written meanwhile. Whatever the tree did on the way, what comes of it is the sequential run of the job.
 //!
-//! To serve an alternative that is out to a worker is to load and run its task, and to note what it has come to in the tree by one
-//! event. So whatever is handed out comes back, to wait or for good, and the world stays that of the tree.
+//! To serve an alternative that is out to a worker is to load and run its task, and to note what it has come to in the tree, by one
+//! event or, at an answer with nothing else left to try, by three. So whatever is handed out comes back, to wait or for good, and the
+//! world stays that of the tree.
 #![tactic(auto)]
 
 mod demand;

@@ -21,9 +21,10 @@ use tree_core::{JobBrand, Tree};
 use tree_model::AltRef;
 
 /// A worker serves an alternative that is out to it, with at most so many inferences by itself; every 256 inferences it asks whether
-/// somebody waits for something to do, and takes no more then. The alternative comes back by one event.
-/// Its cut or its ball was taken; what it has left became nodes, or was closed; what is next was taken in the world; or it waits for
-/// that. After running out of memory the tree's history is as it was; of the world nothing is said then.
+/// somebody waits for something to do, and takes no more then. The alternative comes back by one event:
+/// its cut or its ball was taken; what it has left became nodes, or was closed; what is next was taken in the world; or it waits for
+/// that. Or it comes back by three, where its run has come to an answer with nothing else left to try: the run becomes public, and the
+/// answer goes out and is taken. After running out of memory the tree's history is as it was; of the world nothing is said then.
 pub fn serve<J: JobBrand, D: Demand>(
     tree: &mut Tree<J>,
     run: &mut JobRun,
@@ -70,6 +71,6 @@ fn serve_stopped<J: JobBrand>(
     if stopped.taken == 0 {
         serve_first(tree, run, worker, at, stopped, alloc)
     } else {
-        serve_later(tree, worker, at, stopped, alloc)
+        serve_later(tree, run, worker, at, stopped, alloc)
     }
 }

@@ -10,7 +10,7 @@ ghost use Rattle.task_world.specs.FrontItems.{IsRemovalNext};
 ghost use Rattle.task_world.specs.FrontSteps.{ComesAbout, IsWorldAfter};
 ghost use Rattle.task_world.specs.FrontsTold.{StopsAtFront};
 ghost use Rattle.scheduler.specs.FrontTurns.{IsTaskAtWorld};
-ghost use Rattle.scheduler.specs.GivenBack.{IsGivenBack};
+ghost use Rattle.scheduler.specs.GivenBack.{IsGivenBackOnce};
 ghost use Rattle.scheduler.specs.JobRuns.{IsJobRun};
 
 use crate::front::end_step;
@@ -43,7 +43,7 @@ pub(crate) fn serve_removal<J: JobBrand>(
     requires task { IsTaskAtWorld worker (place_view at) (state_of tree.old.history) }
     requires removal { IsRemovalNext clause worker (place_view at) (state_of tree.old.history) }
     ensures run { OnOk result (IsJobRun tree.new.history run.new) }
-    ensures back { OnOk result (IsGivenBack tree.old.history tree.new.history (place_view at)) }
+    ensures back { OnOk result (IsGivenBackOnce tree.old.history tree.new.history (place_view at)) }
     ensures err { OnErr result (tree.new.history ≡ tree.old.history) }
 {
     ends_open_queries();
@@ -68,7 +68,7 @@ pub(crate) fn serve_answer<J: JobBrand>(
     requires stops { StopsAtFront tree.old.nodes (place_view at) tree.old.history.job.clauses task Answer }
     requires left { IsSome task.next }
     ensures run { OnOk result (IsJobRun tree.new.history run.new) }
-    ensures back { OnOk result (IsGivenBack tree.old.history tree.new.history (place_view at)) }
+    ensures back { OnOk result (IsGivenBackOnce tree.old.history tree.new.history (place_view at)) }
     ensures err { OnErr result (tree.new.history ≡ tree.old.history) }
 {
     ends_open_queries();

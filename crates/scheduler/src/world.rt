@@ -8,7 +8,7 @@ ghost use Rattle.task_region.specs.TaskLoads.{StartsOnBranch};
 ghost use Rattle.task_region.specs.declared.running.TaskStop.TheVariants.{World};
 ghost use Rattle.task_world.specs.FrontsTold.{StopsAtFront};
 ghost use Rattle.scheduler.specs.FrontTurns.{IsTaskAtWorld};
-ghost use Rattle.scheduler.specs.GivenBack.{IsGivenBack};
+ghost use Rattle.scheduler.specs.GivenBack.{IsGivenBackOnce};
 ghost use Rattle.scheduler.specs.JobRuns.{IsJobRun};
 
 use crate::front::end_step;
@@ -41,7 +41,7 @@ pub(crate) fn serve_world<J: JobBrand>(
     requires start { StartsOnBranch tree.old.nodes (place_view at) task }
     requires text { task.region.text.clauses ≡ tree.old.history.job.clauses }
     ensures run { OnOk result (IsJobRun tree.new.history run.new) }
-    ensures back { OnOk result (IsGivenBack tree.old.history tree.new.history (place_view at)) }
+    ensures back { OnOk result (IsGivenBackOnce tree.old.history tree.new.history (place_view at)) }
     ensures err { OnErr result (tree.new.history ≡ tree.old.history) }
 {
     ends_open_queries();

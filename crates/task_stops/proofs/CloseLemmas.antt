@@ -20,7 +20,7 @@ use Rattle.tree_closing.specs.declared.way_up.Beside.{Beside}
 use Rattle.tree_closing.specs.declared.way_up.Beside.TheVariants.{Same, Closes, Gathers, Ends}
 use Rattle.tree_closing.specs.declared.way_up.Closing.{Closing}
 use Rattle.branch_reading.specs.Readings.{reading}
-use Rattle.public_tree.specs.PublicClosing.{end_credit, record_credit, RunEndsAs}
+use Rattle.public_tree.specs.PublicClosing.{end_credit, record_credit, ReadsAs, RunEndsAs}
 use Rattle.public_tree.specs.declared.closing.TaskEnd.{TaskEnd}
 use Rattle.task_stops.specs.WakingPlaces.{WakingClosingsAreNoCatch}
 use Rattle.task_stops.specs.WokenBodies.{IsGivenFor}
@@ -44,6 +44,17 @@ module _ (job : Job) (nodes : NodesView) (t : TreeState) (w : ℕ) (a : Place) (
   pub cell_out : IsSome (cell_at nodes.rows a)
   cell_out = there.cell_there
 
+  -- what wakes reads as the body that is given for it
+  pub given_out : (c : Credit) (closing : Closing) → ComesToRest nodes a c (place_view closing.end) (credit_view closing.credit) closing.beside
+      → HasSleeper closing.beside nodes.rows (place_view closing.end) → WakingClosingsAreNoCatch → (body : Option Body) → IsGivenFor nodes closing body
+      → ReadsAs (reading job) nodes.rows (place_view closing.end) (credit_view closing.credit).records (is_waking closing.beside) body
+  given_out c closing rests sleeper law body given =
+      given.reads job t.root placed legal.sound.sound legal.numbered
+      (λ waking.
+      law nodes (reading job) s.level s.above (Pending s.hold s.entry) a (place_view closing.end) c (credit_view closing.credit) closing.beside there.at
+      there.table (subst (IsSound []) (sym there.in_tree) legal.sound.sound) rests waking
+      (sleeps_there closing.beside nodes.rows (place_view closing.end) sleeper waking))
+
   module _ (k : ℕ) (e : TaskEnd) (collected : Option Term) (closing : Closing) (ends : EndsOut e collected w a k t)
       (rests : ComesToRest nodes a (record_credit k collected) (place_view closing.end) (credit_view closing.credit) closing.beside) where
     rests_out : (o : Spot) → taken_at w a t ≡ Some o
@@ -56,10 +67,5 @@ module _ (job : Job) (nodes : NodesView) (t : TreeState) (w : ℕ) (a : Place) (
     ends_as sleeper law body given = record {
       ends = λ o taken. (ends o taken).ends;
       rests = rests_out;
-      given =
-          given.reads job t.root placed legal.sound.sound legal.numbered
-          (λ waking.
-          law nodes (reading job) s.level s.above (Pending s.hold s.entry) a (place_view closing.end) (record_credit k collected) (credit_view closing.credit)
-          closing.beside there.at there.table (subst (IsSound []) (sym there.in_tree) legal.sound.sound) rests waking
-          (sleeps_there closing.beside nodes.rows (place_view closing.end) sleeper waking));
+      given = given_out (record_credit k collected) closing rests sleeper law body given;
     }

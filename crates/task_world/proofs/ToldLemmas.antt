@@ -16,7 +16,7 @@ use Rattle.run_model.specs.Machine.Items.{Item, GoalItem, CatchMark, CollectMark
 use Rattle.run_model.specs.Programs.Clauses.{Clause}
 use Rattle.run_model.specs.Programs.Jobs.{Job, own_terms}
 use Rattle.task_region.specs.GoalLoads.{nothing_here}
-use Rattle.task_region.specs.TaskStandings.{StandsOnRun}
+use Rattle.task_region.specs.TaskStandings.{IsOwnRun, StandsOnRun}
 use Rattle.task_region.specs.TaskStops.{StandForNothing, StopsTask}
 use Rattle.task_region.specs.TaskViews.{TaskView, carried, task_stack}
 use Rattle.task_region.specs.declared.running.TaskStop.{TaskStop}
@@ -32,7 +32,7 @@ use Rattle.tree_model.specs.Ways.{IsAwake}
 use Rattle.tree_nodes.specs.Bodies.{Branching}
 use Rattle.tree_nodes.specs.TreeTables.{NodesView}
 use Rattle.task_world.specs.FrontItems.{HasLeft, terms_named, value_named}
-use Rattle.task_world.specs.FrontsTold.{AnswersAreTold, IsTreeAt, RemovalsAreTold, StopsAtOnce}
+use Rattle.task_world.specs.FrontsTold.{AnswersAreTold, AreItsNames, IsTreeAt, RemovalsAreTold, StopsAtOnce}
 use Rattle.task_world.proofs.SpotLemmas.{at, awake, on, reads, table, way}
 use Rattle.task_world.proofs.TopLemmas.{ComesFrom, deferred_is, front_told, named_is}
 
@@ -41,21 +41,33 @@ names_bound : (st : StoreView) (names : List VarName) → map (resolve_named st.
 names_bound st [] = refl
 names_bound st (v ∷ names) = ap (λ (vs : List NamedTerm). record { name = (variable_meant v).name; term = value_named st v } ∷ vs) (names_bound st names)
 
+-- what stands for nothing that is deferred
+nothing_joined : (s : Substitution) (deferred items : List (Item ℕ)) → StandForNothing deferred items → joined_items (map (resolve_item s) deferred) items ≡ []
+nothing_joined s deferred [] h = refl
+nothing_joined s deferred (RemovalItem n ∷ []) h = ap (λ (is : List (Item ℕ)). is ++ []) (nothing_from (resolve_item s) deferred n h)
+nothing_joined s deferred (RemovalItem n ∷ (i ∷ items)) h = absurd h
+nothing_joined s deferred (GoalItem t n ∷ items) h = absurd h
+nothing_joined s deferred (CatchMark n ∷ items) h = absurd h
+nothing_joined s deferred (CollectMark t n ∷ items) h = absurd h
+
+abbrev bound : TaskView → Substitution
+bound task = task.region.store.now.bound
+
 module _ (job : Job) (nodes : NodesView) (t : TreeState) (w : ℕ) (a : Place) (clauses : List Clause) (task : TaskView) (tree : IsTreeAt job nodes t) (s : Spot)
     (taken : taken_at w a t ≡ Some s) where
   abbrev levels : List Level
   levels = levels_of s
 
-  abbrev here : Branching
+  abbrev pub here : Branching
   here = way job nodes t w a tree.placed s taken
 
-  abbrev named : List NamedTerm
+  abbrev pub named : List NamedTerm
   named = named_of (query_on job here)
 
-  abbrev start : Continuation ℕ
+  abbrev pub start : Continuation ℕ
   start = by_heights levels (continuation_on job here)
 
-  abbrev run : RegionRun
+  abbrev pub run : RegionRun
   run = run_on_branch clauses levels job here
 
   -- the task stops there
@@ -96,12 +108,12 @@ module _ (job : Job) (nodes : NodesView) (t : TreeState) (w : ℕ) (a : Place) (
     front_next items is = ap (λ (c : Continuation ℕ). c.next) (sym told.rest)
 
   -- what is deferred, as it is bound
-  module _ (stands : StandsOnRun run 0 named task) (items : List (Item ℕ)) where
-    abbrev top : Continuation ℕ
+  module _ (own : IsOwnRun run named task) (items : List (Item ℕ)) where
+    abbrev pub top : Continuation ℕ
     top = before items (nothing_here (carried named task.deferred) task.region)
 
     same_items : start.items ≡ task.deferred
-    same_items = stands.own.items
+    same_items = own.items
 
     top_named : top.named ≡ map (resolve_named task.region.store.now.bound) (start.named ++ map carried_term start.items)
     top_named = ap (λ (is : List (Item ℕ)). map (resolve_named task.region.store.now.bound) (carried named is)) (sym same_items)
@@ -109,11 +121,18 @@ module _ (job : Job) (nodes : NodesView) (t : TreeState) (w : ℕ) (a : Place) (
     pub now_is : deferred_now run.deferred top ≡ map (resolve_item task.region.store.now.bound) task.deferred
     now_is = deferred_is start task.region.store.now.bound top top_named ∙ ap (map (resolve_item task.region.store.now.bound)) same_items
 
-    pub names_are : (joined_continuation run.deferred top).named ≡ map (resolve_named task.region.store.now.bound) named
+    names_are : (joined_continuation run.deferred top).named ≡ map (resolve_named task.region.store.now.bound) named
     names_are = named_is start task.region.store.now.bound top top_named
 
-abbrev bound : TaskView → Substitution
-bound task = task.region.store.now.bound
+    -- nothing of it is left at an answer, and the query's names have what the store has bound
+    pub answer_items : StandForNothing task.deferred items → (joined_continuation run.deferred top).items ≡ []
+    answer_items nothing =
+        ap (joined_items (deferred_now run.deferred top)) (append-nil items)
+        ∙ ap (λ (now : List (Item ℕ)). joined_items now items) now_is
+        ∙ nothing_joined (bound task) task.deferred items nothing
+
+    pub answer_named : (names : List VarName) → AreItsNames job nodes.rows names w a t → (joined_continuation run.deferred top).named ≡ terms_named task.region.store names
+    answer_named names are = names_are ∙ ap (map (resolve_named (bound task))) (sym (are s here taken (on job nodes t w a tree.placed s taken))) ∙ names_bound task.region.store names
 
 -- a removal
 pub removals_are_told : RemovalsAreTold
@@ -124,38 +143,23 @@ removals_are_told job nodes t w a clauses task number tree stops s taken =
     let behind : List (Item ℕ) = drop (suc at_item) (map (resolve_item (bound task)) task.deferred) ++ [] in
     record {
       behind = behind;
-      has = has_left job nodes t w a clauses task tree s taken k.0 k.1 (top job nodes t w a clauses task tree s taken k.0 items)
+      has = has_left job nodes t w a clauses task tree s taken k.0 k.1 (top job nodes t w a clauses task tree s taken k.0.own items)
           (stops.next.2 (carried (named job nodes t w a clauses task tree s taken) task.deferred)) (RemovalItem number ∷ behind)
-          (ap (λ (now : List (Item ℕ)). drop at_item now ++ []) (now_is job nodes t w a clauses task tree s taken k.0 items)
+          (ap (λ (now : List (Item ℕ)). drop at_item now ++ []) (now_is job nodes t w a clauses task tree s taken k.0.own items)
           ∙ ap (λ (is : List (Item ℕ)). is ++ []) (items_from (resolve_item (bound task)) task.deferred at_item (RemovalItem number) stops.next.1));
     }
 
 -- an answer
-nothing_joined : (s : Substitution) (deferred items : List (Item ℕ)) → StandForNothing deferred items → joined_items (map (resolve_item s) deferred) items ≡ []
-nothing_joined s deferred [] h = refl
-nothing_joined s deferred (RemovalItem n ∷ []) h = ap (λ (is : List (Item ℕ)). is ++ []) (nothing_from (resolve_item s) deferred n h)
-nothing_joined s deferred (RemovalItem n ∷ (i ∷ items)) h = absurd h
-nothing_joined s deferred (GoalItem t n ∷ items) h = absurd h
-nothing_joined s deferred (CatchMark n ∷ items) h = absurd h
-nothing_joined s deferred (CollectMark t n ∷ items) h = absurd h
-
 pub answers_are_told : AnswersAreTold
 answers_are_told job nodes t w a clauses task names tree stops are s taken =
     let k = stopped job nodes t w a clauses task tree s taken Answer stops.stops in
     let items = stops.next.0 in
-    let f = top job nodes t w a clauses task tree s taken k.0 items in
+    let f = top job nodes t w a clauses task tree s taken k.0.own items in
     let next = stops.next.2 (carried (named job nodes t w a clauses task tree s taken) task.deferred) in
-    let d = (run job nodes t w a clauses task tree s taken).deferred in
-    let is : (joined_continuation d f).items ≡ []
-    = ap (joined_items (deferred_now d f)) (append-nil items)
-    ∙ ap (λ (now : List (Item ℕ)). joined_items now items) (now_is job nodes t w a clauses task tree s taken k.0 items)
-    ∙ nothing_joined (bound task) task.deferred items stops.next.1 in
+    let is = answer_items job nodes t w a clauses task tree s taken k.0.own items stops.next.1 in
     record {
       has = has_left job nodes t w a clauses task tree s taken k.0 k.1 f next [] is;
       named_are =
           front_named job nodes t w a clauses task tree s taken k.0 k.1 f next [] is
-          ∙ names_are job nodes t w a clauses task tree s taken k.0 items
-          ∙ ap (map (resolve_named (bound task)))
-          (sym (are s (way job nodes t w a tree.placed s taken) taken (on job nodes t w a tree.placed s taken)))
-          ∙ names_bound task.region.store names;
+          ∙ answer_named job nodes t w a clauses task tree s taken k.0.own items names are;
     }

@@ -77,7 +77,7 @@ fn answer_at_front<J: JobBrand>(
 }
 
 /// Writes the line of an answer: names with what they stand for.
-fn write_answer(
+pub fn write_answer(
     alloc: Global,
     names: &[VarName],
     store: &Store,

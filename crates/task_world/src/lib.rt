@@ -17,7 +17,7 @@ mod removal;
 mod step;
 pub mod task_laws;
 
-pub use answer::take_answer;
+pub use answer::{take_answer, write_answer};
 pub use ending::end_query;
 pub use front::{close, go_on, why_barred};
 pub use goals::query_goals;

@@ -14,4 +14,4 @@ on_ok (Err e) f h = tt
 
 pub returns-clause-driven : goal.returns-clause-driven
 returns-clause-driven g c =
-    on_ok c.serve.result (λ b. back_again c.out_and_back.ensures.out c.out_and_back.ensures.back _ _ _ _ c.requires.driven c.requires.going c.in_ok-at.ensures.goes b) c.serve.ensures.back
+    on_ok c.serve.result (back_again c.out_and_back.ensures.out c.out_and_back.ensures.back c.out_and_back.ensures.once _ _ _ _ c.requires.driven c.requires.going c.in_ok-at.ensures.goes) c.serve.ensures.back
