@@ -159,12 +159,12 @@ static COUNTED: [(u64, u32, RunEnding, &str); 2] = [
     (3_003, 3, RunEnding::Budget, "true\n"),
 ];
 
-/// An answer after a catch whose goal has ended is taken in the turn that runs up to it, where the budget lasts to that, its third
+/// An answer after a catch whose goal has ended is taken in the turn that runs up to it, where the budget lasts to that, its fourth
 /// inference.
 static AFTER_CATCH: [(u64, u32, RunEnding, &str); 3] = [
-    (4, 2, RunEnding::Finished, "true\nno\n"),
-    (3, 1, RunEnding::Budget, "true\n"),
-    (2, 1, RunEnding::Budget, ""),
+    (5, 2, RunEnding::Finished, "true\nno\n"),
+    (4, 1, RunEnding::Budget, "true\n"),
+    (3, 1, RunEnding::Budget, ""),
 ];
 
 /// Whether the run of a text within a budget takes so many turns, ends so, and writes this.
