@@ -24,3 +24,4 @@ pub mod FrontKeptLemmas
 pub mod TakeBackLemmas
 pub mod CellLemmas
 pub mod SkipLemmas
+pub mod StayingLemmas

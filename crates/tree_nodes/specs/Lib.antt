@@ -14,3 +14,4 @@ pub mod Batches
 pub mod Gaps
 pub mod TakingBack
 pub mod Skipping
+pub mod Staying

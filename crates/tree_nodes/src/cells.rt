@@ -6,6 +6,7 @@ ghost use Rattle.tree_nodes.specs.RowViews.{parent_view};
 ghost use Rattle.tree_nodes.specs.Siblings.{alternative_view};
 ghost use Rattle.tree_nodes.specs.Changes.{root_after};
 ghost use Rattle.tree_nodes.specs.Puts.{IsDroppedBy, IsStatePut, IsPlaceIn, IsLinked, IsLinkedAt};
+ghost use Rattle.tree_nodes.specs.Staying.{StayMade};
 
 use crate::drops::drop_node;
 use crate::siblings::Alternative;
@@ -16,7 +17,8 @@ use tree_model::AltRef;
 /// Puts another in place of an alternative; the node that was below it goes with all below that, unless it stays.
 pub(crate) fn put_cell(table: &mut Table, live: &mut u64, at: AltRef, alternative: Alternative)
     requires there { IsSome (cell_at table.old (place_view at)) }
-    ensures { IsStatePut table.old live.old table.new live.new (place_view at) (alternative_view alternative) }
+    ensures put { IsStatePut table.old live.old table.new live.new (place_view at) (alternative_view alternative) }
+    ensures made { StayMade table.old table.new }
 {
     let now = alternative.inner();
     let below = table.replace(at, alternative);
@@ -53,7 +55,8 @@ fn link_below(table: &mut Table, at: AltRef, node: u64)
 }
 
 fn drop_replaced(table: &mut Table, live: &mut u64, below: Option<u64>, now: Option<u64>)
-    ensures { IsDroppedBy below now table.old live.old table.new live.new }
+    ensures dropped { IsDroppedBy below now table.old live.old table.new live.new }
+    ensures made { StayMade table.old table.new }
 {
     match (below, now) {
         (Some(node), None) => drop_node(table, live, node),

@@ -1,6 +1,7 @@
 //! Parts of the tree that go.
 ghost use Rattle.std.specs.Prelude.{◌≡◌};
 ghost use Rattle.tree_nodes.specs.Drops.{IsDropStep, DropsNode};
+ghost use Rattle.tree_nodes.specs.Staying.{StayMade};
 
 use crate::row::Shortened;
 use crate::table::Table;
@@ -25,7 +26,8 @@ fn drop_step(table: &mut Table, live: &mut u64, at: u64, top: u64) -> Option<u64
 
 /// Takes out a node and all that is below it, from the right, so that a node is taken out behind what is below it.
 pub(crate) fn drop_node(table: &mut Table, live: &mut u64, top: u64)
-    ensures { DropsNode table.old live.old table.new live.new top }
+    ensures drops { DropsNode table.old live.old table.new live.new top }
+    ensures made { StayMade table.old table.new }
 {
     let mut at = top;
     while let Some(next) = drop_step(table, live, at, top) {

@@ -16,6 +16,7 @@ ghost use Rattle.tree_nodes.specs.Folds.{FoldsUpTo, ClosesWithRecords, AreWithou
 ghost use Rattle.tree_nodes.specs.Fronts.{HasOpenLeft, KeepsFront, IsFront, IsNextOf};
 ghost use Rattle.tree_nodes.specs.Siblings.{ArePassed, alternative_view};
 ghost use Rattle.tree_nodes.specs.Puts.{inner_at};
+ghost use Rattle.tree_nodes.specs.Staying.{StayMade};
 ghost use Rattle.tree_nodes.specs.TakingBack.{IsTakenBack, TakesBack};
 ghost use Rattle.tree_nodes.specs.Gathering.{IsFoldStep, FoldsWithRecords, Gathers, GathersRecords, is_shut_at};
 
@@ -108,6 +109,7 @@ impl Nodes {
     pub fn reserve(&mut self, closings: u64) -> Result<(), NoMemory>
         ensures ok { OnOk result (self.new ≡ record self.old { spare = max self.old.spare closings }) }
         ensures err { OnErr result (self.new ≡ self.old) }
+        ensures made { StayMade self.old.rows self.new.rows }
     {
         self.spare = self.spare.max(closings);
         Ok(())
@@ -264,6 +266,7 @@ impl Nodes {
         requires fits { Fits (cell_at self.old.rows (place_view at)) (cell_view state) }
         ensures set { SetsCell self.old self.new (place_view at) spent (cell_view state) }
         ensures numbers { KeepsNumbers self.old self.new }
+        ensures made { StayMade self.old.rows self.new.rows }
     {
         self.put(at, Alternative { state, spent });
     }
@@ -273,6 +276,7 @@ impl Nodes {
         requires { IsSome (cell_at self.old.rows (place_view at)) }
         ensures entry { TakesBack self.old self.new (place_view at) worker spent }
         ensures numbers { KeepsNumbers self.old self.new }
+        ensures made { StayMade self.old.rows self.new.rows }
     {
         let state = AltState::Taken(worker);
         self.put(at, Alternative { state, spent });
@@ -284,6 +288,7 @@ impl Nodes {
         requires fits { Fits (cell_at self.old.rows (place_view at)) (cell_view alternative.state) }
         ensures put { IsTakenBack self.old self.new (place_view at) (alternative_view alternative) }
         ensures numbers { KeepsNumbers self.old self.new }
+        ensures made { StayMade self.old.rows self.new.rows }
     {
         let limit = self.front_limit(at, &alternative.state);
         put_cell(&mut self.table, &mut self.live, at, alternative);
@@ -404,6 +409,7 @@ impl Nodes {
         ensures added { IfOk result (λ n. Adds self.old self.new (parent_view parent) n (body_view (arc_value body))) }
         ensures grown { OnOk result (IsLonger self.old self.new) }
         ensures err { OnErr result (self.new ≡ self.old) }
+        ensures made { StayMade self.old.rows self.new.rows }
     {
         let slot = Slot::new(self.alloc, parent, body)?;
         let Some(live) = self.live.checked_add(1) else {
@@ -429,6 +435,7 @@ impl Nodes {
         ensures err { OnErr result (self.new ≡ self.old) }
         ensures provided { OnErr result (ClosesWithRecords self.old (place_view at) (credit_view credit)) }
         ensures without { AreWithoutRecords self.old.rows → (credit_view credit).records ≡ [] → IsOk result }
+        ensures made { StayMade self.old.rows self.new.rows }
     {
         let (end, total) = self.folded(at, credit)?;
         let spent = self.spent(end);

@@ -7,7 +7,9 @@ use Rattle.tree_nodes.specs.RowViews.{parent_view, new_row}
 use Rattle.tree_nodes.specs.TreeTables.{NodesView}
 use Rattle.tree_nodes.specs.Changes.{Adds, CanHold, root_after}
 use Rattle.tree_nodes.specs.Puts.{IsLinked}
+use Rattle.tree_nodes.specs.Staying.{StayMade}
 use Rattle.tree_nodes.proofs.AddLemmas.{adds, adds_stand}
+use Rattle.tree_nodes.proofs.StayingLemmas.{made_unchanged, made_then, made_more, made_linked}
 use Rattle.tree_nodes.proofs.FrontKeptLemmas.{add_kept}
 use Rattle.tree_nodes.proofs.nodes.Nodes.add.Goals as goal
 
@@ -46,3 +48,17 @@ returns-clause-added c =
     let live : new.live ≡ old.live + 1 = grind (arith, common_steps) in
     subst (λ (o : NodesView). Adds o c.advance.new.self parent c.len-number.result body) c.self.view_is
     (subst (λ (o : NodesView). Adds old o parent c.len-number.result body) (sym c.advance.ensures) (subst (λ (n : ℕ). Adds old new parent n body) (sym number) (adds old new parent body linked first live can)))
+
+pub returns-in_err-push-clause-made : goal.returns-in_err-push-clause-made
+returns-in_err-push-clause-made c =
+    subst (λ (o : NodesView). StayMade o.rows c.push.new.self) c.self.view_is (made_unchanged c.self.inside.table c.push.new.self c.in_err-push.ensures.err)
+
+pub returns-clause-made : goal.returns-clause-made
+returns-clause-made c =
+    let rows = c.self.inside.table in
+    let pushed = c.push.new.self in
+    let linked = c.link_cell.new.table in
+    let more : StayMade rows pushed = subst (StayMade rows) (sym c.in_ok-push.ensures.ok) (made_more rows _) in
+    subst (λ (o : NodesView). StayMade o.rows c.advance.new.self.rows) c.self.view_is
+    (subst (λ (o : NodesView). StayMade rows o.rows) (sym c.advance.ensures)
+    (made_then rows pushed linked more (made_linked pushed linked (parent_view c.args.parent) c.len-number.result c.link_cell.ensures)))

@@ -2,6 +2,7 @@ use Rattle.std.proofs.Common.{◌≡◌, ℕ, None, length, refl, sym, ap, ◌�
 use Rattle.tree_nodes.specs.Rows.{Rows, row_of_node}
 use Rattle.tree_nodes.specs.TreeTables.{NodesView}
 use Rattle.tree_nodes.specs.Changes.{AreGone, GivesBack}
+use Rattle.tree_nodes.specs.Staying.{AreAllSame}
 use Rattle.tree_nodes.proofs.RowLemmas.{row_at-take}
 use Rattle.tree_nodes.proofs.PutLemmas.{same_rows}
 use Rattle.tree_nodes.proofs.FrontLemmas.{next_same}
@@ -19,8 +20,8 @@ invariant_of-self c =
       led = next_same old.rows new.rows old.first None c.self.inside.front.items rows c.self.invariant.led;
     }
 
-pub returns : goal.returns
-returns c =
+pub returns-clause-given : goal.returns-clause-given
+returns-clause-given c =
     let old : NodesView = record { rows = c.self.inside.table; first = c.self.inside.first; live = c.self.inside.live; spare = c.self.inside.spare } in
     let new : NodesView = record { rows = c.truncate.new.self; first = c.self.inside.first; live = c.self.inside.live; spare = c.self.inside.spare } in
     let gone : AreGone old.rows c.args.next = subst (λ (o : NodesView). AreGone o.rows c.args.next) (sym c.self.view_is) c.requires in
@@ -31,3 +32,9 @@ returns c =
       same = λ read root s. same_rows old new read root rows refl refl s;
     } in
     subst (λ (o : NodesView). GivesBack o new c.args.next) c.self.view_is given
+
+pub returns-clause-made : goal.returns-clause-made
+returns-clause-made c =
+    let gone : AreGone c.self.inside.table c.args.next = subst (λ (o : NodesView). AreGone o.rows c.args.next) (sym c.self.view_is) c.requires in
+    subst (λ (o : NodesView). AreAllSame o.rows c.truncate.new.self) c.self.view_is
+    (λ m. ap (λ (rs : Rows). row_of_node rs m) c.truncate.ensures ∙ row_at-take c.self.inside.table c.args.next m gone)

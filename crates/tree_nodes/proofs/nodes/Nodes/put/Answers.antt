@@ -19,7 +19,7 @@ invariant_of-self c =
     let there : IsSome (cell_at old.rows a) = subst (λ (o : NodesView). IsSome (cell_at o.rows a)) (sym c.self.view_is) c.requires.there in
     let fits : Fits (cell_at old.rows a) cell = subst (λ (o : NodesView). Fits (cell_at o.rows a) cell) (sym c.self.view_is) c.requires.fits in
     let keeps : KeepsFront old.rows a cell c.front_limit-limit.result = subst (λ (o : NodesView). KeepsFront o.rows a cell c.front_limit-limit.result) (sym c.self.view_is) c.front_limit-limit.ensures in
-    put_kept old new a (alternative_view c.args.alternative) c.front_limit-limit.result c.self.inside.front.items c.retreat.new.front.items c.self.invariant there c.put_cell.ensures refl fits keeps
+    put_kept old new a (alternative_view c.args.alternative) c.front_limit-limit.result c.self.inside.front.items c.retreat.new.front.items c.self.invariant there c.put_cell.ensures.put refl fits keeps
     c.retreat.ensures
 
 pub returns-clause-put : goal.returns-clause-put
@@ -29,4 +29,4 @@ returns-clause-put c =
     let a = place_view c.args.at in
     let cell = alternative_view c.args.alternative in
     subst (λ (o : NodesView). IsTakenBack o c.advance_below.new.self a cell) c.self.view_is
-    (subst (λ (o : NodesView). IsTakenBack old o a cell) (sym c.advance_below.ensures) (record { state = c.put_cell.ensures; first = refl }))
+    (subst (λ (o : NodesView). IsTakenBack old o a cell) (sym c.advance_below.ensures) (record { state = c.put_cell.ensures.put; first = refl }))
