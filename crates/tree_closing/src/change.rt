@@ -6,6 +6,7 @@ ghost use Rattle.tree_model.specs.EventViews.{place_view};
 ghost use Rattle.tree_nodes.specs.Bodies.{body_view};
 ghost use Rattle.tree_nodes.specs.Changes.{SetsCell, KeepsNumbers, IsLonger};
 ghost use Rattle.tree_nodes.specs.Rows.{ClosedCell, cell_at, credit_view};
+ghost use Rattle.tree_nodes.specs.Staying.{StayMade};
 ghost use Rattle.tree_closing.specs.Sleeping.{right_of, IsBesideSleeper};
 ghost use Rattle.tree_closing.specs.Closings.{ClosesHere, HasSleeper, is_waking, IsSingle, Rests, RestsWoken, credit_after};
 
@@ -24,6 +25,7 @@ pub fn settle(nodes: &mut Nodes, closing: Closing)
     requires quiet { is_waking closing.beside ≡ false }
     ensures rests { Rests nodes.old nodes.new (place_view closing.end) (credit_view closing.credit) closing.beside }
     ensures numbers { KeepsNumbers nodes.old nodes.new }
+    ensures made { StayMade nodes.old.rows nodes.new.rows }
 {
     let Closing {
         end,
@@ -50,6 +52,7 @@ pub fn wake(nodes: &mut Nodes, closing: Closing, body: Arc<NodeBody>) -> Result<
     ensures number { IfOk result (λ n. n ≡ length nodes.old.rows) }
     ensures grown { OnOk result (IsLonger nodes.old nodes.new) }
     ensures err { OnErr result (nodes.new ≡ nodes.old) }
+    ensures made { StayMade nodes.old.rows nodes.new.rows }
 {
     // The proof reads off that there is a tree.
     let _live = nodes.live();
@@ -74,6 +77,7 @@ fn close_here(nodes: &mut Nodes, at: AltRef, credit: Credit)
     requires { IsSome (cell_at nodes.old.rows (place_view at)) }
     ensures closed { ClosesHere nodes.old nodes.new (place_view at) (credit_view credit) }
     ensures numbers { KeepsNumbers nodes.old nodes.new }
+    ensures made { StayMade nodes.old.rows nodes.new.rows }
 {
     let spent = nodes.spent(at);
     nodes.set(at, AltState::Closed(credit), spent);
@@ -86,6 +90,7 @@ fn close_sleeper(nodes: &mut Nodes, end: AltRef)
     ensures closed { SetsCell nodes.old nodes.new (right_of (place_view end)) 0 (ClosedCell no_credit) }
     ensures there { IsSome (cell_at nodes.new.rows (place_view end)) }
     ensures numbers { KeepsNumbers nodes.old nodes.new }
+    ensures made { StayMade nodes.old.rows nodes.new.rows }
 {
     // The proof reads off that there is a tree.
     let _live = nodes.live();

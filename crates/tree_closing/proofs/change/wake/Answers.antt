@@ -6,6 +6,7 @@ use Rattle.tree_model.specs.EventViews.{place_view}
 use Rattle.tree_nodes.specs.Bodies.{body_view}
 use Rattle.tree_nodes.specs.Changes.{Fits}
 use Rattle.tree_nodes.specs.Rows.{AlternativeCell, InnerCell, credit_view}
+use Rattle.tree_nodes.proofs.StayingLemmas.{made_then}
 use Rattle.tree_closing.specs.Closings.{ClosesHere}
 use Rattle.tree_closing.proofs.ChangeLemmas.{waking_sleeper, linked, first_linked, rests_woken}
 use Rattle.tree_closing.proofs.change.wake.Goals as goal
@@ -38,3 +39,9 @@ returns-clause-rests c =
     let closed = subst (λ (k : Credit). ClosesHere c.set.new.self c.close_here.new.nodes b k) c.left_of-credit.ensures c.close_here.ensures.closed in
     rests_woken c.args.nodes.now c.add.new.self c.set.new.self c.close_here.new.nodes b (credit_view c.args.closing.credit) sort (body_view (arc_value c.args.body)) c.in_ok-number.number
     sleeper c.requires.single c.in_ok-number.ensures.added c.set.ensures.set closed c.requires.waking
+
+pub returns-clause-made : goal.returns-clause-made
+returns-clause-made c =
+    let old = c.args.nodes.now in
+    made_then old.rows c.set.new.self.rows c.close_here.new.nodes.rows (made_then old.rows c.add.new.self.rows c.set.new.self.rows c.in_ok-number.ensures.made c.set.ensures.made)
+    c.close_here.ensures.made
