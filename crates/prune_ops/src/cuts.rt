@@ -5,6 +5,7 @@ ghost use Rattle.tree_model.specs.EventViews.{place_view};
 ghost use Rattle.tree_nodes.specs.Bodies.{IsWhole, body_view};
 ghost use Rattle.tree_nodes.specs.Changes.{IsLonger, IsOpenCell};
 ghost use Rattle.tree_nodes.specs.Rows.{cell_at, scope_number};
+ghost use Rattle.tree_nodes.specs.Staying.{StayMade};
 ghost use Rattle.prune_ops.specs.Cuts.{CutsAt};
 
 use crate::prune::prune_right;
@@ -22,6 +23,7 @@ pub fn cut(nodes: &mut Nodes, at: AltRef, scope: Scope, body: Arc<NodeBody>) -> 
     ensures cut { OnOk result (CutsAt nodes.old nodes.new (place_view at) (scope_number scope) (body_view (arc_value body))) }
     ensures grown { OnOk result (IsLonger nodes.old nodes.new) }
     ensures err { OnErr result (nodes.new ≡ nodes.old) }
+    ensures made { StayMade nodes.old.rows nodes.new.rows }
 {
     // The proof reads off that there is a tree.
     let _live = nodes.live();

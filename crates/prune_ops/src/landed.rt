@@ -5,6 +5,7 @@ ghost use Rattle.tree_model.specs.EventViews.{place_view};
 ghost use Rattle.tree_nodes.specs.Bodies.{IsWhole, body_view};
 ghost use Rattle.tree_nodes.specs.Changes.{IsLonger};
 ghost use Rattle.tree_nodes.specs.Rows.{cell_at, credit_view};
+ghost use Rattle.tree_nodes.specs.Staying.{StayMade};
 ghost use Rattle.tree_closing.specs.Sleeping.{IsBesideSleeper};
 ghost use Rattle.prune_ops.specs.Falls.{LandsBeside};
 
@@ -22,6 +23,7 @@ pub fn land(nodes: &mut Nodes, landing: Landing, body: Arc<NodeBody>) -> Result<
     ensures lands { OnOk result (LandsBeside nodes.old nodes.new (place_view landing.end) (credit_view landing.credit) (body_view (arc_value body))) }
     ensures grown { OnOk result (IsLonger nodes.old nodes.new) }
     ensures err { OnErr result (nodes.new ≡ nodes.old) }
+    ensures made { StayMade nodes.old.rows nodes.new.rows }
 {
     // The proof reads off that there is a tree.
     let _live = nodes.live();

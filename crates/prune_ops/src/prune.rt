@@ -5,6 +5,7 @@ ghost use Rattle.tree_nodes.specs.Rows.{cell_at, credit_view, scope_number};
 ghost use Rattle.tree_model.specs.Credits.{no_credit};
 ghost use Rattle.tree_nodes.specs.RowViews.{parent_view};
 ghost use Rattle.tree_nodes.specs.Changes.{KeepsNumbers};
+ghost use Rattle.tree_nodes.specs.Staying.{StayMade};
 ghost use Rattle.prune_ops.specs.Prunes.{PrunesRight, PrunesLevel, within_scope};
 
 use clause_compile::Scope;
@@ -17,6 +18,7 @@ pub fn prune_right(nodes: &mut Nodes, at: AltRef, scope: Scope)
     requires { IsSome (cell_at nodes.old.rows (place_view at)) }
     ensures pruned { PrunesRight nodes.old nodes.new (place_view at) (scope_number scope) }
     ensures numbers { KeepsNumbers nodes.old nodes.new }
+    ensures made { StayMade nodes.old.rows nodes.new.rows }
 {
     let (Scope::Node(number) | Scope::Local(number)) = scope;
     let mut next = below(Some(at), number);
@@ -40,6 +42,7 @@ fn prune_level(nodes: &mut Nodes, at: AltRef)
     ensures pruned { PrunesLevel nodes.old nodes.new (place_view at) }
     ensures numbers { KeepsNumbers nodes.old nodes.new }
     ensures there { IsSome (cell_at nodes.new.rows (place_view at)) }
+    ensures made { StayMade nodes.old.rows nodes.new.rows }
 {
     // The proof reads off that there is a tree.
     let _live = nodes.live();

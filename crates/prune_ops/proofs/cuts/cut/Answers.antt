@@ -5,6 +5,7 @@ use Rattle.tree_model.specs.EventViews.{place_view}
 use Rattle.tree_nodes.specs.Bodies.{body_view}
 use Rattle.tree_nodes.specs.Changes.{SetsCell, Fits}
 use Rattle.tree_nodes.specs.Rows.{AlternativeCell, InnerCell, cell_at, scope_number}
+use Rattle.tree_nodes.proofs.StayingLemmas.{made_then}
 use Rattle.prune_ops.proofs.CutLemmas.{open_there, linked, still_there, cuts}
 use Rattle.prune_ops.proofs.cuts.cut.Goals as goal
 
@@ -40,3 +41,9 @@ returns-clause-cut c =
     = subst (λ (k : ℕ). SetsCell c.add.new.self c.set.new.self a k (InnerCell n)) c.in-Some.ensures.1 c.set.ensures.set in
     cuts old c.add.new.self c.set.new.self c.prune_right.new.nodes a (scope_number c.args.scope) c.spent.result (body_view (arc_value c.args.body)) n
     c.in_ok-number.ensures.number c.spent.ensures c.in_ok-number.ensures.added set c.prune_right.ensures.pruned
+
+pub returns-clause-made : goal.returns-clause-made
+returns-clause-made c =
+    let old = c.args.nodes.now in
+    made_then old.rows c.set.new.self.rows c.prune_right.new.nodes.rows (made_then old.rows c.add.new.self.rows c.set.new.self.rows c.in_ok-number.ensures.made c.set.ensures.made)
+    c.prune_right.ensures.made

@@ -5,6 +5,7 @@ use Rattle.tree_model.specs.EventViews.{place_view}
 use Rattle.tree_nodes.specs.Bodies.{body_view}
 use Rattle.tree_nodes.specs.Changes.{Fits}
 use Rattle.tree_nodes.specs.Rows.{AlternativeCell, InnerCell, cell_at, credit_view}
+use Rattle.tree_nodes.proofs.StayingLemmas.{made_then}
 use Rattle.tree_closing.specs.Sleeping.{right_of}
 use Rattle.tree_closing.proofs.ChangeLemmas.{linked, first_linked, closes_here, asleep_pending}
 use Rattle.prune_ops.proofs.LandLemmas.{lands_beside}
@@ -43,3 +44,9 @@ returns-clause-lands c =
     let closed = closes_here c.set.new.self c.set-2.new.self b (credit_view c.args.landing.credit) c.spent-spent.result c.spent-spent.ensures c.set-2.ensures.set in
     lands_beside old c.add.new.self c.set.new.self c.set-2.new.self b (credit_view c.args.landing.credit) (body_view (arc_value c.args.body)) c.in_ok-number.number
     c.requires.sleeper c.in_ok-number.ensures.added c.set.ensures.set closed c.in_ok-number.ensures.number
+
+pub returns-clause-made : goal.returns-clause-made
+returns-clause-made c =
+    let old = c.args.nodes.now in
+    made_then old.rows c.set.new.self.rows c.set-2.new.self.rows (made_then old.rows c.add.new.self.rows c.set.new.self.rows c.in_ok-number.ensures.made c.set.ensures.made)
+    c.set-2.ensures.made

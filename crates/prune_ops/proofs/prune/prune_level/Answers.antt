@@ -4,11 +4,12 @@ use Rattle.tree_model.specs.Credits.{Credit}
 use Rattle.tree_model.specs.EventViews.{place_view}
 use Rattle.tree_nodes.specs.Rows.{AlternativeCell, ClosedCell, row_of_node, alternatives_at, cell_at}
 use Rattle.tree_nodes.specs.Changes.{SetsCell}
+use Rattle.tree_nodes.proofs.StayingLemmas.{made_same, made_then}
 use Rattle.prune_ops.proofs.PruneLemmas.{prunes_begin, prunes_more, prunes_all, place_stays, within_some, numbers_kept}
 use Rattle.prune_ops.proofs.prune.prune_level.Goals as goal
 
 pub loop-alternative-init : goal.loop-alternative-init
-loop-alternative-init c = record { prunes = prunes_begin c.args.nodes.now (place_view c.args.at); numbers = record { length = refl; spare = refl } }
+loop-alternative-init c = record { prunes = prunes_begin c.args.nodes.now (place_view c.args.at); numbers = record { length = refl; spare = refl }; made = made_same c.args.nodes.now.rows }
 
 pub spent-spent-requires : goal.spent-spent-requires
 spent-spent-requires c =
@@ -31,6 +32,7 @@ loop-alternative-preserved c =
     record {
       prunes = prunes_more old nodes c.set.new.self a j c.spent-spent.result c.loop-alternative.invariant.prunes l spent set;
       numbers = numbers_kept old nodes c.set.new.self c.loop-alternative.invariant.numbers c.set.ensures.numbers;
+      made = made_then old.rows nodes.rows c.set.new.self.rows c.loop-alternative.invariant.made c.set.ensures.made;
     }
 
 pub returns-clause-pruned : goal.returns-clause-pruned

@@ -4,6 +4,7 @@ use Rattle.tree_model.specs.EventViews.{place_view}
 use Rattle.tree_model.specs.Levels.{Place}
 use Rattle.tree_nodes.specs.RowViews.{parent_view}
 use Rattle.tree_nodes.specs.Puts.{IsPlaceIn}
+use Rattle.tree_nodes.proofs.StayingLemmas.{made_then}
 use Rattle.prune_ops.specs.Prunes.{PrunesUp}
 use Rattle.prune_ops.proofs.PruneLemmas.{pruned_more, place_below, numbers_kept}
 use Rattle.prune_ops.proofs.prune.prune_right.Goals as goal
@@ -22,4 +23,5 @@ loop-next-preserved c =
       there = subst (IsPlaceIn new.rows) (sym c.below-next-in-Some.ensures) (place_below new.rows scope (parent_view c.parent.result) b.node c.parent.ensures.above);
       prunes = subst (λ (o : Option Place). PrunesUp old new a scope o) (sym c.below-next-in-Some.ensures) more;
       numbers = numbers_kept old nodes new c.loop-next.invariant.numbers c.prune_level.ensures.numbers;
+      made = made_then old.rows nodes.rows new.rows c.loop-next.invariant.made c.prune_level.ensures.made;
     }
