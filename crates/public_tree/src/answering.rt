@@ -8,6 +8,7 @@ ghost use Rattle.tree_model.specs.Events.{Answer};
 ghost use Rattle.tree_nodes.specs.Bodies.{IsWhole, body_view};
 ghost use Rattle.tree_nodes.specs.Changes.{IsOpenCell, IsLonger, KeepsNumbers};
 ghost use Rattle.tree_nodes.specs.Rows.{cell_at, credit_view, scope_number};
+ghost use Rattle.tree_nodes.specs.Staying.{StayMade};
 ghost use Rattle.tree_closing.specs.Closings.{ComesToRest, HasSleeper};
 ghost use Rattle.public_tree.specs.Opening.{opening_body};
 ghost use Rattle.public_tree.specs.PublicTrees.{Answers, IsSameTree, IsOut, IsLeftmostAt};
@@ -61,6 +62,7 @@ impl PublicTree {
         ensures promised { IfOk result (λ r. self.new.log.promised ≡ promised_by r self.old.log.promised) }
         ensures err { OnErr result (IsSameTree self.old self.new) }
         ensures kept { OnErr result (self.new.log.promised ≡ self.old.log.promised) }
+        ensures made { StayMade self.old.nodes.rows self.new.nodes.rows }
     {
         if let Some(barred) = self.barred(at) {
             return Ok(barred);
@@ -105,6 +107,7 @@ impl PublicTree {
         ensures promised { IfOk result (λ r. self.new.log.promised ≡ promised_by r self.old.log.promised) }
         ensures err { OnErr result (IsSameTree self.old self.new) }
         ensures kept { OnErr result (self.new.log.promised ≡ self.old.log.promised) }
+        ensures made { StayMade self.old.nodes.rows self.new.nodes.rows }
     {
         if let Some(barred) = self.barred(at) {
             return Ok(barred);
@@ -130,6 +133,7 @@ impl PublicTree {
         ensures promised { IfOk result (λ r. self.new.log.promised ≡ promised_by r self.old.log.promised) }
         ensures err { OnErr result (IsSameTree self.old self.new) }
         ensures kept { OnErr result (self.new.log.promised ≡ self.old.log.promised) }
+        ensures made { StayMade self.old.nodes.rows self.new.nodes.rows }
     {
         if let Some(barred) = self.barred(at) {
             return Ok(barred);
@@ -148,6 +152,7 @@ impl PublicTree {
         ensures promised { IfOk result (λ r. self.new.log.promised ≡ promised_by r self.old.log.promised) }
         ensures err { OnErr result (IsSameTree self.old self.new) }
         ensures kept { OnErr result (self.new.log.promised ≡ self.old.log.promised) }
+        ensures made { StayMade self.old.nodes.rows self.new.nodes.rows }
     {
         if let Some(barred) = self.barred(at) {
             return Ok(barred);
@@ -176,6 +181,7 @@ impl PublicTree {
         ensures promised { IfOk result (λ r. self.new.log.promised ≡ promised_by r self.old.log.promised) }
         ensures err { OnErr result (IsSameTree self.old self.new) }
         ensures kept { OnErr result (self.new.log.promised ≡ self.old.log.promised) }
+        ensures made { StayMade self.old.nodes.rows self.new.nodes.rows }
     {
         if let Some(barred) = self.barred(at) {
             return Ok(barred);
@@ -222,6 +228,7 @@ fn grow(nodes: &mut Nodes, at: AltRef, body: Arc<NodeBody>) -> Result<(), NoMemo
     ensures grows { OnOk result (GrowsAt nodes.old nodes.new (place_view at) (body_view (arc_value body))) }
     ensures longer { OnOk result (IsLonger nodes.old nodes.new) }
     ensures err { OnErr result (nodes.new ≡ nodes.old) }
+    ensures made { StayMade nodes.old.rows nodes.new.rows }
 {
     // The proof reads off that there is a tree.
     let _live = nodes.live();
@@ -239,6 +246,7 @@ fn spend(nodes: &mut Nodes, worker: u32, at: AltRef) -> Result<(), NoMemory>
     ensures spends { OnOk result (SpendsAt nodes.old nodes.new worker (place_view at)) }
     ensures numbers { OnOk result (KeepsNumbers nodes.old nodes.new) }
     ensures err { OnErr result (nodes.new ≡ nodes.old) }
+    ensures made { StayMade nodes.old.rows nodes.new.rows }
 {
     let Some(spent) = nodes.spent(at).checked_add(1) else {
         return Err(NoMemory);

@@ -6,6 +6,7 @@ ghost use Rattle.tree_model.specs.EventViews.{event_view, place_view};
 ghost use Rattle.tree_nodes.specs.Changes.{GivesBack, KeepsNumbers};
 ghost use Rattle.tree_nodes.specs.Rows.{cell_at, credit_view};
 ghost use Rattle.tree_nodes.specs.Skipping.{skipping};
+ghost use Rattle.tree_nodes.specs.Staying.{StayMade};
 ghost use Rattle.tree_closing.specs.Closings.{ComesToRest, HasSleeper};
 ghost use Rattle.public_tree.specs.Opening.{opening_body};
 ghost use Rattle.public_tree.specs.PublicTrees.{Answers, IsSameTree, IsOut};
@@ -74,6 +75,7 @@ impl PublicTree {
         ensures promised { IfOk result (λ r. self.new.log.promised ≡ promised_by_run r self.old.log.promised) }
         ensures err { OnErr result (IsSameTree self.old self.new) }
         ensures kept { OnErr result (self.new.log.promised ≡ self.old.log.promised) }
+        ensures made { StayMade self.old.nodes.rows self.new.nodes.rows }
     {
         answers_may_follow();
         answers_close_at_once();
@@ -154,6 +156,7 @@ fn close_run(
     requires body { IsBodyGiven closing.beside (opening_body woken) }
     ensures rests { OnOk result (RunRestsIn nodes.old nodes.new (place_view at) inferences skipped closing (opening_body woken)) }
     ensures err { OnErr result (GivesBack nodes.old nodes.new (length nodes.old.rows)) }
+    ensures made { StayMade nodes.old.rows nodes.new.rows }
 {
     let Some(spent) = nodes.spent(at).checked_add(inferences) else {
         return Err(NoMemory);
@@ -176,6 +179,7 @@ fn skip_and_rest(
     requires body { IsBodyGiven closing.beside (opening_body woken) }
     ensures rests { OnOk result (RestsIn (skipping skipped nodes.old) nodes.new (place_view closing.end) (credit_view closing.credit) closing.beside (opening_body woken)) }
     ensures err { OnErr result (GivesBack nodes.old nodes.new (length nodes.old.rows)) }
+    ensures made { StayMade nodes.old.rows nodes.new.rows }
 {
     let drawn = nodes.drawn();
     nodes.skip(skipped)?;
@@ -192,6 +196,7 @@ fn skip_and_rest(
 fn spend_on_closed(nodes: &mut Nodes, at: AltRef, spent: u64, credit: Credit)
     ensures spends { SpendsOnClosed nodes.old nodes.new (place_view at) spent (credit_view credit) }
     ensures numbers { KeepsNumbers nodes.old nodes.new }
+    ensures made { StayMade nodes.old.rows nodes.new.rows }
 {
     if nodes.is_closed(at) {
         nodes.set(at, AltState::Closed(credit), spent);

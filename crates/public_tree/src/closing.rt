@@ -3,6 +3,7 @@
 ghost use Rattle.std.specs.Prelude.{◌≡◌, ◌+◌, ◌<◌, ◌≤◌, IsSome, IfOk, OnOk, OnErr};
 ghost use Rattle.tree_model.specs.EventViews.{event_view, place_view};
 ghost use Rattle.tree_nodes.specs.Rows.{cell_at, credit_view};
+ghost use Rattle.tree_nodes.specs.Staying.{StayMade};
 ghost use Rattle.tree_closing.specs.Closings.{ComesToRest, HasSleeper};
 ghost use Rattle.public_tree.specs.Opening.{opening_body};
 ghost use Rattle.public_tree.specs.PublicTrees.{IsSameTree, IsOut};
@@ -60,6 +61,7 @@ impl PublicTree {
         ensures err { OnErr result (IsSameTree self.old self.new) }
         ensures promised { self.old.log.promised ≤ self.new.log.promised + 1 }
         ensures kept { OnErr result (self.new.log.promised ≡ self.old.log.promised) }
+        ensures made { StayMade self.old.nodes.rows self.new.nodes.rows }
     {
         if !self.is_going() {
             return Ok(());
@@ -81,6 +83,7 @@ pub(crate) fn rest(
     requires body { IsBodyGiven closing.beside (opening_body woken) }
     ensures rests { OnOk result (RestsIn nodes.old nodes.new (place_view closing.end) (credit_view closing.credit) closing.beside (opening_body woken)) }
     ensures err { OnErr result (nodes.new ≡ nodes.old) }
+    ensures made { StayMade nodes.old.rows nodes.new.rows }
 {
     match closing.beside {
         Beside::Same | Beside::Closes => {

@@ -13,6 +13,7 @@ ghost use Rattle.tree_model.specs.Legality.{is_task, taken_at, claimable, resuma
 ghost use Rattle.tree_nodes.specs.Puts.{IsPlaceIn};
 ghost use Rattle.tree_nodes.specs.Rows.{cell_at, cell_view, gate_view};
 ghost use Rattle.tree_nodes.specs.RowViews.{parent_view};
+ghost use Rattle.tree_nodes.specs.Staying.{StayMade};
 ghost use Rattle.public_tree.specs.PublicTrees.{promised_out, Answers, IsSameTree, HandsOut, is_going, IsHeldAt, Offers, IsLeftmostAt};
 ghost use Rattle.public_tree.specs.PublicTrees.{IsOut, Suspends, GivesUp, is_frozen_gate, is_taken_at, is_taken_cell};
 
@@ -32,6 +33,7 @@ impl PublicTree {
         ensures promised { IfOk result (λ at. self.new.log.promised ≡ promised_out (parent_view at) self.old.log.promised) }
         ensures err { OnErr result (IsSameTree self.old self.new) }
         ensures kept { OnErr result (self.new.log.promised ≡ self.old.log.promised) }
+        ensures made { StayMade self.old.nodes.rows self.new.nodes.rows }
     {
         if !self.is_going() {
             return Ok(None);
@@ -52,6 +54,7 @@ impl PublicTree {
         ensures promised { IfOk result (λ at. self.new.log.promised ≡ promised_out (parent_view at) self.old.log.promised) }
         ensures err { OnErr result (IsSameTree self.old self.new) }
         ensures kept { OnErr result (self.new.log.promised ≡ self.old.log.promised) }
+        ensures made { StayMade self.old.nodes.rows self.new.nodes.rows }
     {
         if !self.is_going() {
             return Ok(None);
@@ -73,6 +76,7 @@ impl PublicTree {
         requires promised { 0 < self.old.log.promised }
         ensures suspends { Suspends self.old self.new worker (place_view at) (gate_view gate) }
         ensures promised { self.old.log.promised ≤ self.new.log.promised + 1 }
+        ensures made { StayMade self.old.nodes.rows self.new.nodes.rows }
     {
         if !self.is_going() {
             return;
@@ -104,6 +108,7 @@ impl PublicTree {
         requires promised { 0 < self.old.log.promised }
         ensures gives_up { GivesUp self.old self.new worker (place_view at) }
         ensures promised { self.old.log.promised ≤ self.new.log.promised + 1 }
+        ensures made { StayMade self.old.nodes.rows self.new.nodes.rows }
     {
         if !self.is_going() {
             return;
@@ -137,6 +142,7 @@ impl PublicTree {
         ensures held { IsHeldAt self.old.nodes self.new.nodes (place_view at) (TakenBy worker) }
         ensures numbers { length self.new.nodes.rows ≡ length self.old.nodes.rows }
         ensures others { self.new ≡ record self.old { nodes = self.new.nodes } }
+        ensures made { StayMade self.old.nodes.rows self.new.nodes.rows }
     {
         let spent = self.nodes.spent(at);
         self.nodes.set(at, AltState::Taken(worker), spent);

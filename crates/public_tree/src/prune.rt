@@ -7,6 +7,7 @@ ghost use Rattle.tree_model.specs.EventViews.{place_view};
 ghost use Rattle.tree_nodes.specs.Bodies.{IsWhole, body_view};
 ghost use Rattle.tree_nodes.specs.Changes.{IsOpenCell};
 ghost use Rattle.tree_nodes.specs.Rows.{cell_at, scope_number};
+ghost use Rattle.tree_nodes.specs.Staying.{StayMade};
 ghost use Rattle.public_tree.specs.LostTasks.{task_view};
 ghost use Rattle.public_tree.specs.PrunedTasks.{FindsTasks};
 ghost use Rattle.public_tree.specs.PublicTrees.{IsSameTree, IsOut};
@@ -52,6 +53,7 @@ impl PublicTree {
         ensures promised { IfOk result (λ p. self.new.log.promised ≡ promised_after p self.old.log.promised) }
         ensures err { OnErr result (IsSameTree self.old self.new) }
         ensures kept { OnErr result (self.new.log.promised ≡ self.old.log.promised) }
+        ensures made { StayMade self.old.nodes.rows self.new.nodes.rows }
     {
         if !self.is_going() {
             return Ok(Pruning::HasEnded);
@@ -83,6 +85,7 @@ impl PublicTree {
         ensures promised { IfOk result (λ p. self.new.log.promised ≡ promised_after p self.old.log.promised) }
         ensures err { OnErr result (IsSameTree self.old self.new) }
         ensures kept { OnErr result (self.new.log.promised ≡ self.old.log.promised) }
+        ensures made { StayMade self.old.nodes.rows self.new.nodes.rows }
     {
         if !self.is_going() {
             return Ok(Pruning::HasEnded);

@@ -5,6 +5,7 @@ ghost use Rattle.tree_model.specs.TreeStates.{ended, counts};
 ghost use Rattle.tree_model.specs.Events.{Stop};
 ghost use Rattle.tree_nodes.specs.Rows.{row_of_node, alternatives_at};
 ghost use Rattle.tree_nodes.specs.Siblings.{counts_from};
+ghost use Rattle.tree_nodes.specs.Staying.{StayMade};
 ghost use Rattle.public_tree.specs.PublicTrees.{Answers, Stops, is_going};
 
 use crate::event_log::EventLog;
@@ -96,6 +97,7 @@ impl PublicTree {
     pub fn stop(&mut self, worker: u32)
         ensures stops { Stops self.old self.new worker }
         ensures promised { self.new.log.promised ≡ self.old.log.promised }
+        ensures made { StayMade self.old.nodes.rows self.new.nodes.rows }
     {
         if self.is_going() {
             self.log.stop(worker);

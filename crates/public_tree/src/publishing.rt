@@ -3,6 +3,7 @@
 ghost use Rattle.std.specs.Prelude.{◌≡◌, ◌+◌, ◌<◌, ◌≤◌, IsSome, IfOk, OnOk, OnErr, map, length};
 ghost use Rattle.tree_model.specs.EventViews.{place_view};
 ghost use Rattle.tree_nodes.specs.Rows.{cell_at};
+ghost use Rattle.tree_nodes.specs.Staying.{StayMade};
 ghost use Rattle.public_tree.specs.PublicTrees.{IsSameTree, IsOut};
 ghost use Rattle.public_tree.specs.PublicClosing.{HappensIn};
 ghost use Rattle.public_tree.specs.Publishing.{bodies_view, body_sizes, publishing_event, AreWhole, RunReadsAs, IsReadyAt, AddsBelow, AddsSome, MakesNodes, IsSameWith};
@@ -32,6 +33,7 @@ impl PublicTree {
         ensures err { OnErr result (IsSameTree self.old self.new) }
         ensures promised { self.old.log.promised ≤ self.new.log.promised + 1 }
         ensures kept { OnErr result (self.new.log.promised ≡ self.old.log.promised) }
+        ensures made { StayMade self.old.nodes.rows self.new.nodes.rows }
     {
         if !self.is_going() {
             return Ok(());
@@ -61,6 +63,7 @@ fn make_nodes(
     requires whole { AreWhole (bodies_view bodies.now) }
     ensures made { OnOk result (MakesNodes nodes.old nodes.new (place_view at) inferences (bodies_view bodies.now)) }
     ensures err { OnErr result (IsSameWith nodes.old nodes.new worker (place_view at)) }
+    ensures stay { StayMade nodes.old.rows nodes.new.rows }
 {
     // The proof reads off that there is a tree.
     let _live = nodes.live();
@@ -86,6 +89,7 @@ fn add_nodes(nodes: &mut Nodes, at: AltRef, bodies: &[Arc<NodeBody>]) -> Result<
     requires whole { AreWhole (bodies_view bodies.now) }
     ensures added { OnOk result (AddsBelow nodes.old nodes.new (place_view at) (bodies_view bodies.now)) }
     ensures some { OnErr result (AddsSome nodes.old nodes.new (place_view at)) }
+    ensures stay { StayMade nodes.old.rows nodes.new.rows }
 {
     let mut at = at;
     for body in bodies {

@@ -5,6 +5,7 @@ use Rattle.tree_model.specs.EventViews.{place_view}
 use Rattle.tree_nodes.specs.Bodies.{body_view}
 use Rattle.tree_nodes.specs.Changes.{SetsCell, Fits}
 use Rattle.tree_nodes.specs.Rows.{AlternativeCell, InnerCell, cell_at}
+use Rattle.tree_nodes.proofs.StayingLemmas.{made_then}
 use Rattle.prune_ops.proofs.CutLemmas.{open_there, linked}
 use Rattle.public_tree.proofs.AnsweringLemmas.{grows_at}
 use Rattle.public_tree.proofs.answering.grow.Goals as goal
@@ -33,3 +34,6 @@ returns-clause-grows c =
     = subst (λ (k : ℕ). SetsCell c.add.new.self c.set.new.self a k (InnerCell n)) c.in-Some.ensures.1 c.set.ensures.set in
     grows_at old c.add.new.self c.set.new.self a c.spent.result (body_view (arc_value c.args.body)) n c.in_ok-number.ensures.number c.spent.ensures
     c.in_ok-number.ensures.added set
+
+pub returns-clause-made : goal.returns-clause-made
+returns-clause-made c = made_then c.args.nodes.now.rows c.add.new.self.rows c.set.new.self.rows c.in_ok-number.ensures.made c.set.ensures.made

@@ -8,6 +8,7 @@ use Rattle.tree_nodes.specs.Bodies.{IsWhole, body_view}
 use Rattle.tree_nodes.specs.TreeTables.{NodesView}
 use Rattle.public_tree.specs.Publishing.{bodies_view, AddsBelow, AddsSome}
 use Rattle.tree_nodes.proofs.SomeLemmas.{on_err}
+use Rattle.tree_nodes.proofs.StayingLemmas.{made_then}
 use Rattle.public_tree.proofs.AddedLemmas.{GoesOn, added_so_far, goes_on, ready_open, ready_below}
 use Rattle.public_tree.proofs.BodyLemmas.{whole_at, next_bodies}
 use Rattle.public_tree.proofs.publishing.add_nodes.Goals as goal
@@ -58,6 +59,7 @@ loop-body-preserved c =
     record {
       ready = ready_below now more p c.in_ok-node.node body e.added whole e.number e.grown.length c.live-live.ensures.sound (ready_open now.rows p c.loop-body.invariant.ready);
       more = subst (GoesOn c.args.nodes.now more a (record { node = c.in_ok-node.node; index = 0 })) (sym bodies) steps;
+      made = made_then c.args.nodes.now.rows now.rows more.rows c.loop-body.invariant.made e.made;
     }
 
 pub returns-clause-added : goal.returns-clause-added
@@ -67,3 +69,7 @@ returns-clause-added c =
     let all : done ≡ c.args.bodies.now = take_all c.loop-body.body-index c.args.bodies.now c.loop-body-test.false in
     subst (λ (items : List (Arc NodeBody Global)). AddsBelow c.args.nodes.now c.loop-body.nodes a (bodies_view items)) all
     (added_so_far c.args.nodes.now c.loop-body.nodes a (place_view c.loop-body.at) (bodies_view done) c.loop-body.invariant.ready c.loop-body.invariant.more)
+
+pub returns-in_err-node-clause-stay : goal.returns-in_err-node-clause-stay
+returns-in_err-node-clause-stay c =
+    made_then c.args.nodes.now.rows c.loop-body.nodes.rows c.add.new.self.rows c.loop-body.invariant.made c.in_err-node.ensures.made
