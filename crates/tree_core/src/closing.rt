@@ -3,6 +3,7 @@ ghost use Rattle.std.specs.Prelude.{◌≡◌, ◌≤◌, true, is_some, IsSome,
 ghost use Rattle.tree_model.specs.EventViews.{place_view};
 ghost use Rattle.tree_model.specs.Legality.{taken_at};
 ghost use Rattle.tree_nodes.specs.Rows.{cell_at, credit_view};
+ghost use Rattle.tree_nodes.specs.Staying.{StayMade};
 ghost use Rattle.tree_closing.specs.Closings.{ComesToRest, HasSleeper};
 ghost use Rattle.branch_reading.specs.Readings.{reading};
 ghost use Rattle.public_tree.specs.Opening.{opening_body};
@@ -54,6 +55,7 @@ impl<J: JobBrand> Tree<J> {
         requires ends { RunEndsAs self.old.nodes end closing (opening_body woken) worker (place_view at) inferences (reading self.old.history.job) (state_of self.old.history) }
         ensures closes { OnOk result (self.new.history ≡ while_going (closing_event end worker (place_view at) inferences) self.old.history) }
         ensures err { OnErr result (self.new.history ≡ self.old.history) }
+        ensures made { StayMade self.old.nodes.rows self.new.nodes.rows }
     {
         handed_out_once();
         if !self.is_going() {
@@ -78,6 +80,7 @@ impl<J: JobBrand> Tree<J> {
         requires reads { RunReadsAs self.old.nodes.rows (bodies_view bodies.now) worker (place_view at) inferences (reading self.old.history.job) (state_of self.old.history) }
         ensures publishes { OnOk result (self.new.history ≡ while_going (publishing_event (bodies_view bodies.now) worker (place_view at) inferences) self.old.history) }
         ensures err { OnErr result (self.new.history ≡ self.old.history) }
+        ensures made { StayMade self.old.nodes.rows self.new.nodes.rows }
     {
         handed_out_once();
         if !self.is_going() {

@@ -7,6 +7,7 @@ ghost use Rattle.tree_model.specs.Events.{Answer};
 ghost use Rattle.tree_model.specs.Legality.{taken_at};
 ghost use Rattle.tree_nodes.specs.Bodies.{IsWhole, body_view};
 ghost use Rattle.tree_nodes.specs.Rows.{cell_at, credit_view, scope_number};
+ghost use Rattle.tree_nodes.specs.Staying.{StayMade};
 ghost use Rattle.tree_closing.specs.Closings.{ComesToRest, HasSleeper};
 ghost use Rattle.branch_reading.specs.Readings.{reading};
 ghost use Rattle.public_tree.specs.Opening.{opening_body};
@@ -58,6 +59,7 @@ impl<J: JobBrand> Tree<J> {
         ensures answer { IfOk result (λ r. r ≡ answering_of (Answer worker (place_view at) false) (state_of self.old.history)) }
         ensures noted { IfOk result (λ r. self.new.history ≡ where_legal (Answer worker (place_view at) false) self.old.history) }
         ensures err { OnErr result (self.new.history ≡ self.old.history) }
+        ensures made { StayMade self.old.nodes.rows self.new.nodes.rows }
     {
         handed_out_once();
         if !self.is_going() {
@@ -84,6 +86,7 @@ impl<J: JobBrand> Tree<J> {
         ensures answer { IfOk result (λ r. r ≡ answering_of (Answer worker (place_view at) false) (state_of self.old.history)) }
         ensures noted { IfOk result (λ r. self.new.history ≡ where_legal (Answer worker (place_view at) false) self.old.history) }
         ensures err { OnErr result (self.new.history ≡ self.old.history) }
+        ensures made { StayMade self.old.nodes.rows self.new.nodes.rows }
     {
         handed_out_once();
         if !self.is_going() {
@@ -107,6 +110,7 @@ impl<J: JobBrand> Tree<J> {
         ensures answer { IfOk result (λ r. r ≡ answering_of (Answer worker (place_view at) false) (state_of self.old.history)) }
         ensures noted { IfOk result (λ r. self.new.history ≡ where_legal (Answer worker (place_view at) false) self.old.history) }
         ensures err { OnErr result (self.new.history ≡ self.old.history) }
+        ensures made { StayMade self.old.nodes.rows self.new.nodes.rows }
     {
         handed_out_once();
         if !self.is_going() {
@@ -123,6 +127,7 @@ impl<J: JobBrand> Tree<J> {
         ensures answer { IfOk result (λ r. r ≡ answering_of (Answer worker (place_view at) false) (state_of self.old.history)) }
         ensures noted { IfOk result (λ r. self.new.history ≡ where_legal (Answer worker (place_view at) false) self.old.history) }
         ensures err { OnErr result (self.new.history ≡ self.old.history) }
+        ensures made { StayMade self.old.nodes.rows self.new.nodes.rows }
     {
         handed_out_once();
         if !self.is_going() {
@@ -147,6 +152,7 @@ impl<J: JobBrand> Tree<J> {
         ensures answer { IfOk result (λ r. r ≡ answering_of (Answer worker (place_view at) false) (state_of self.old.history)) }
         ensures noted { IfOk result (λ r. self.new.history ≡ where_legal (Answer worker (place_view at) false) self.old.history) }
         ensures err { OnErr result (self.new.history ≡ self.old.history) }
+        ensures made { StayMade self.old.nodes.rows self.new.nodes.rows }
     {
         handed_out_once();
         if !self.is_going() {

@@ -4,6 +4,7 @@ ghost use Rattle.std.specs.Prelude.{◌≡◌, ◌≤◌, true, is_some, IsSome,
 ghost use Rattle.tree_model.specs.EventViews.{place_view};
 ghost use Rattle.tree_model.specs.Legality.{taken_at};
 ghost use Rattle.tree_nodes.specs.Rows.{cell_at, credit_view};
+ghost use Rattle.tree_nodes.specs.Staying.{StayMade};
 ghost use Rattle.tree_closing.specs.Closings.{ComesToRest, HasSleeper};
 ghost use Rattle.branch_reading.specs.Readings.{reading};
 ghost use Rattle.public_tree.specs.Opening.{opening_body};
@@ -64,6 +65,7 @@ impl<J: JobBrand> Tree<J> {
         ensures answer { IfOk result (λ r. r ≡ run_answering (place_view at) inferences (state_of self.old.history)) }
         ensures noted { IfOk result (λ r. self.new.history ≡ where_taken r (run_events (state_of self.old.history).next worker (place_view at) inferences recoveries) self.old.history) }
         ensures err { OnErr result (self.new.history ≡ self.old.history) }
+        ensures made { StayMade self.old.nodes.rows self.new.nodes.rows }
     {
         handed_out_once();
         events_keep_trees();

@@ -7,6 +7,7 @@ ghost use Rattle.tree_model.specs.HandOuts.{Never, Away};
 ghost use Rattle.tree_model.specs.Legality.{is_task, taken_at, claimable, resumable};
 ghost use Rattle.tree_nodes.specs.Rows.{gate_view};
 ghost use Rattle.tree_nodes.specs.RowViews.{parent_view};
+ghost use Rattle.tree_nodes.specs.Staying.{StayMade};
 ghost use Rattle.public_tree.specs.PublicTrees.{IsItsGate, is_frozen_gate};
 ghost use Rattle.tree_core.specs.Histories.{state_of, while_going};
 ghost use Rattle.tree_core.specs.HandOuts.{offered_at, handing_out, WasHanded, LeavesOther};
@@ -29,6 +30,7 @@ impl<J: JobBrand> Tree<J> {
         ensures once { IfOk result (λ at. WasHanded Never (parent_view at) self.old.history) }
         ensures never_stuck { IfOk result (λ at. LeavesOther resumable (parent_view at) (state_of self.old.history)) }
         ensures err { OnErr result (self.new.history ≡ self.old.history) }
+        ensures made { StayMade self.old.nodes.rows self.new.nodes.rows }
     {
         promises_are_kept();
         self.public.claim(worker)
@@ -43,6 +45,7 @@ impl<J: JobBrand> Tree<J> {
         ensures once { IfOk result (λ at. WasHanded Away (parent_view at) self.old.history) }
         ensures never_stuck { IfOk result (λ at. LeavesOther claimable (parent_view at) (state_of self.old.history)) }
         ensures err { OnErr result (self.new.history ≡ self.old.history) }
+        ensures made { StayMade self.old.nodes.rows self.new.nodes.rows }
     {
         promises_are_kept();
         self.public.resume(worker)
@@ -54,6 +57,7 @@ impl<J: JobBrand> Tree<J> {
         requires out { is_some (taken_at worker (place_view at) (state_of self.old.history)) ≡ true }
         requires gate { IsItsGate (gate_view gate) worker (place_view at) (state_of self.old.history) }
         ensures suspends { self.new.history ≡ while_going (Suspend worker (place_view at) (is_frozen_gate (gate_view gate))) self.old.history }
+        ensures made { StayMade self.old.nodes.rows self.new.nodes.rows }
     {
         handed_out_once();
         if self.is_going() {
@@ -79,6 +83,7 @@ impl<J: JobBrand> Tree<J> {
     pub fn give_up(&mut self, worker: u32, at: AltRef)
         requires lost { list_any (is_task worker (place_view at)) (state_of self.old.history).lost ≡ true }
         ensures gives_up { self.new.history ≡ while_going (Lost worker (place_view at)) self.old.history }
+        ensures made { StayMade self.old.nodes.rows self.new.nodes.rows }
     {
         handed_out_once();
         if self.is_going() {

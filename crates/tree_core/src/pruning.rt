@@ -6,6 +6,7 @@ ghost use Rattle.tree_model.specs.Events.{Prune};
 ghost use Rattle.tree_model.specs.Legality.{taken_at};
 ghost use Rattle.tree_nodes.specs.Bodies.{IsWhole, body_view};
 ghost use Rattle.tree_nodes.specs.Rows.{scope_number};
+ghost use Rattle.tree_nodes.specs.Staying.{StayMade};
 ghost use Rattle.branch_reading.specs.Readings.{reading};
 ghost use Rattle.public_tree.specs.PublicPruning.{CutsAs, LandsAs};
 ghost use Rattle.tree_core.specs.Histories.{state_of};
@@ -38,6 +39,7 @@ impl<J: JobBrand> Tree<J> {
         ensures answer { IfOk result (λ p. p ≡ pruning_of (Prune worker (place_view at)) (state_of self.old.history)) }
         ensures cut { IfOk result (λ p. self.new.history ≡ where_legal (Prune worker (place_view at)) self.old.history) }
         ensures err { OnErr result (self.new.history ≡ self.old.history) }
+        ensures made { StayMade self.old.nodes.rows self.new.nodes.rows }
     {
         handed_out_once();
         if !self.is_going() {
@@ -62,6 +64,7 @@ impl<J: JobBrand> Tree<J> {
         ensures answer { IfOk result (λ p. p ≡ pruning_of (Prune worker (place_view at)) (state_of self.old.history)) }
         ensures fallen { IfOk result (λ p. self.new.history ≡ where_legal (Prune worker (place_view at)) self.old.history) }
         ensures err { OnErr result (self.new.history ≡ self.old.history) }
+        ensures made { StayMade self.old.nodes.rows self.new.nodes.rows }
     {
         handed_out_once();
         if !self.is_going() {

@@ -5,6 +5,7 @@ ghost use Rattle.tree_model.specs.Credits.{greatest};
 ghost use Rattle.tree_model.specs.Events.{Stop};
 ghost use Rattle.tree_model.specs.LegalTrees.{IsLegalTree};
 ghost use Rattle.tree_model.specs.TreeStates.{ended, counts};
+ghost use Rattle.tree_nodes.specs.Staying.{StayMade};
 ghost use Rattle.public_tree.specs.PublicTrees.{is_going};
 ghost use Rattle.tree_core.specs.Histories.{state_of, while_going, NodesStand};
 ghost use Rattle.tree_core.specs.Openings.{IsFirstOf};
@@ -125,7 +126,8 @@ impl<J: JobBrand> Tree<J> {
 
     /// Stops the tree, where it has not ended: nothing happens to it from then on.
     pub fn stop(&mut self, worker: u32)
-        ensures { self.new.history ≡ while_going (Stop worker) self.old.history }
+        ensures stops { self.new.history ≡ while_going (Stop worker) self.old.history }
+        ensures made { StayMade self.old.nodes.rows self.new.nodes.rows }
     {
         self.public.stop(worker);
     }
