@@ -18,3 +18,4 @@ pub mod WritingLemmas
 pub mod MadeBindingLemmas
 pub mod ListGoalLemmas
 pub mod OlderBindingLemmas
+pub mod MarkLemmas

@@ -249,7 +249,7 @@ module _ (p : Parts) (k : IsConsistent p) (m : Mark) (old : IsConsistentAt p m) 
   abbrev earlier : Substitution
   earlier = substitution_in older_code older_cells
 
-  keeps : Keeps older_code code
+  pub keeps : Keeps older_code code
   keeps =
       let names = append-nil older_code.names in
       let places : older_code.places ++ drop m.made p.heap.made ≡ code.places = append_assoc p.heap.program.places (take m.made p.heap.made) (drop m.made p.heap.made) ∙ ap (λ ps. p.heap.program.places ++ ps) (take-append-drop m.made p.heap.made) in

@@ -199,18 +199,27 @@ module _ (h : HeapView) (cs : List BindingCell) (t : List ℕ) (f : Mark) (ns : 
   made_is : m.made ≡ length h.made
   made_is = ap (λ (n : Mark). n.made) is
 
-  heap_same : cut_heap m.made h ≡ h
-  heap_same = ap (with_made h) (ap (λ n. take n h.made) made_is ∙ take-length h.made)
+  pub heap_at_now : cut_heap m.made h ≡ h
+  heap_at_now = ap (with_made h) (ap (λ n. take n h.made) made_is ∙ take-length h.made)
 
-  cells_same : undone m t cs ≡ cs
-  cells_same = undone_now t cs m trail_is variables_are
+  pub cells_at_now : undone m t cs ≡ cs
+  cells_at_now = undone_now t cs m trail_is variables_are
+
+  pub consistent_at_now : IsConsistentAt p m
+  consistent_at_now = subst (λ g. AreConsistent (heap_text g) (undone m t cs)) (sym heap_at_now) (subst (AreConsistent (heap_text h)) (sym cells_at_now) k.now)
+
+  pub within_now : IsWithin p m
+  within_now = record {
+    older = record { trail = omega (arith, trail_is); variables = omega (arith, variables_are); made = omega (arith, made_is) };
+    there = subst (λ vs. Each (λ x. x < m.variables) vs) (sym (ap (λ n. take n t) trail_is ∙ take-length t)) (each-more (λ x. x < length cs) (λ x. x < m.variables) (λ x lt. omega (arith, variables_are)) t k.trail);
+  }
 
   pub marked_parts : IsConsistent q
   marked_parts = record {
     now = k.now;
-    at_marks = each-append (IsConsistentAt q) ms (m ∷ []) k.at_marks (subst (λ g. AreConsistent (heap_text g) (undone m t cs)) (sym heap_same) (subst (AreConsistent (heap_text h)) (sym cells_same) k.now), tt);
+    at_marks = each-append (IsConsistentAt q) ms (m ∷ []) k.at_marks (consistent_at_now, tt);
     within = each-append (IsWithin q) ms (m ∷ []) (each-more (IsWithin p) (IsWithin q) (λ n w. record { older = record { trail = w.older.trail; variables = w.older.variables; made = w.older.made }; there = w.there }) ms k.within)
-        (record { older = record { trail = omega (arith, trail_is); variables = omega (arith, variables_are); made = omega (arith, made_is) }; there = subst (λ vs. Each (λ x. x < m.variables) vs) (sym (ap (λ n. take n t) trail_is ∙ take-length t)) (each-more (λ x. x < length cs) (λ x. x < m.variables) (λ x lt. omega (arith, variables_are)) t k.trail) }, tt);
+        (record { older = record { trail = within_now.older.trail; variables = within_now.older.variables; made = within_now.older.made }; there = within_now.there }, tt);
     nested = nested-append ms m k.nested (each-more (IsWithin p) (λ n. IsOlderMark n m) (λ n w. record { trail = omega (arith, trail_is, w.older.trail); variables = omega (arith, variables_are, w.older.variables); made = omega (arith, made_is, w.older.made) }) ms k.within);
     trail = k.trail;
     variables = k.variables;
@@ -220,7 +229,7 @@ module _ (h : HeapView) (cs : List BindingCell) (t : List ℕ) (f : Mark) (ns : 
 
   pub marked_view : view_of q ≡ with_mark (view_of p)
   marked_view =
-      let last : moment_at q m ≡ moment_of h cs = ap (λ g. moment_of g (undone m t cs)) heap_same ∙ ap (moment_of h) cells_same in
+      let last : moment_at q m ≡ moment_of h cs = ap (λ g. moment_of g (undone m t cs)) heap_at_now ∙ ap (moment_of h) cells_at_now in
       let marks : map (moment_at q) (ns ++ m ∷ []) ≡ map (moment_at p) ns ++ moment_of h cs ∷ [] = map-append (moment_at q) ns (m ∷ []) ∙ ap (λ x. map (moment_at p) ns ++ x ∷ []) last in cc
 
   -- which becomes the floor where there is no other
@@ -238,7 +247,7 @@ module _ (h : HeapView) (cs : List BindingCell) (t : List ℕ) (f : Mark) (ns : 
 
   pub floored_view : ns ≡ [] → view_of (parts h cs t (m ∷ [])) ≡ over_floor (view_of p)
   floored_view none =
-      let last : moment_at q m ≡ moment_of h cs = ap (λ g. moment_of g (undone m t cs)) heap_same ∙ ap (moment_of h) cells_same in
+      let last : moment_at q m ≡ moment_of h cs = ap (λ g. moment_of g (undone m t cs)) heap_at_now ∙ ap (moment_of h) cells_at_now in
       let marks : map (moment_at p) ns ≡ [] = ap (map (moment_at p)) none in cc
 
 pub none_marked : (f : Mark → Moment) (ms : List Mark) → map f ms ≡ [] → ms ≡ []

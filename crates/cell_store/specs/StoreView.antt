@@ -125,6 +125,15 @@ with_marks n st = record st { marks = take n st.marks }
 abbrev pub over_floor : StoreView → StoreView
 over_floor st = record st { floor = st.now }
 
+-- the state is the floor, and so is that at each mark
+abbrev pub raised : StoreView → StoreView
+raised st = record st { floor = st.now; marks = map (λ m. st.now) st.marks }
+
+-- a moment that has come before the state: what was made then is there and means the same
+pub record IsOlderMoment (st : StoreView) (m : Moment) : Type 0 where
+  pub keeps : Keeps (text_at st m) (text_in st)
+  pub next : m.next ≤ st.now.next
+
 -- taken back to a state that was marked
 abbrev pub taken_back : Moment → StoreView → StoreView
 taken_back m st = record st { now = m }

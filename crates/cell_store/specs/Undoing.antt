@@ -1,6 +1,6 @@
 -- What undoing leaves: bindings of variables that were there at a mark are taken back by the trail, and what came later
 -- is cut off.
-use Rattle.std.specs.Prelude.{ℕ, ◌<◌, ◌≤◌, List, [], ◌∷◌, length, take, drop, slice_set}
+use Rattle.std.specs.Prelude.{ℕ, ◌<◌, ◌≤◌, List, [], ◌∷◌, ◌++◌, length, take, drop, replicate, slice_set}
 use Rattle.au_model.specs.Terms.Each.{Each}
 use Rattle.binding_array.specs.declared.cell.BindingCell.{BindingCell}
 use Rattle.binding_array.specs.declared.cell.BindingCell.TheVariants.{Free}
@@ -33,6 +33,15 @@ pub record IsOlderMark (m n : Mark) : Type 0 where
 abbrev pub AreNested : List Mark → Type 0
 AreNested [] = Unit {0}
 AreNested (m ∷ ms) = Each (IsOlderMark m) ms × AreNested ms
+
+-- the marks of a store: that of its floor, and those over it
+pub record MarksView : Type 0 where
+  pub floor : Mark
+  pub marks : List Mark
+
+-- so many marks at a floor, and later ones
+abbrev pub marks_over : Mark → ℕ → List Mark → List Mark
+marks_over floor n later = replicate n floor ++ later
 
 -- a mark of how a store is
 abbrev pub mark_now : Parts → Mark

@@ -14,12 +14,12 @@ ghost use Rattle.cell_store.specs.FreshVariables.{AreOlder, AreYoung};
 ghost use Rattle.cell_store.specs.ListGoals.{list_goal};
 ghost use Rattle.cell_store.specs.MadeBindings.{AreMadeSince, AreOlderSinceMark, IsBindingOf, IsNextAtMark};
 ghost use Rattle.cell_store.specs.UnificationSteps.{AllEquations, IsSolved, OnlyBinds, equations_left};
-ghost use Rattle.cell_store.specs.StoreView.{Moment, IsValidStore, IsValueIn, IsDereferenced, CanBeBound, BindsFurther, AddsText, meaning, substitution, text_in, value_term, new_store, with_numbers, with_mark, with_marks, taken_back, over_floor};
+ghost use Rattle.cell_store.specs.StoreView.{Moment, IsValidStore, IsValueIn, IsDereferenced, CanBeBound, BindsFurther, AddsText, meaning, substitution, text_in, value_term, new_store, with_numbers, with_mark, with_marks, taken_back, over_floor, raised, IsOlderMoment};
 
 use crate::arguments::{Arguments, Equations};
 use crate::heap::Heap;
 use crate::made::{bindings_after, older_variables};
-use crate::mark::{Mark, free_after, mark_of, protected};
+use crate::mark::{Marks, free_after, mark_of};
 use crate::resolved::resolved;
 use crate::solve::solve;
 use au_term::{Atom, FlatTerm, NoMemory, Shared};
@@ -37,8 +37,7 @@ pub struct Store {
     cells: BindingArray,
     /// Variables that were there at the newest mark of their time, or at the floor, and were bound since.
     trail: Vec<u32>,
-    floor: Mark,
-    marks: Vec<Mark>,
+    marks: Marks,
     /// Room for the equations that wait in a unification, and for the arguments that wait in its occurs check.
     pending: Vec<Equations>,
     walked: Vec<Arguments>,
@@ -56,9 +55,9 @@ impl Model for Store {
 
     ghost coded = { Prim.hlevel (codes, term_code) };
 
-    ghost view = { λ s. view_of (record { heap = s.heap; cells = s.cells; trail = s.trail.items; marks = s.floor ∷ s.marks.items }) };
+    ghost view = { λ s. view_of (record { heap = s.heap; cells = s.cells; trail = s.trail.items; marks = s.marks.floor ∷ s.marks.marks }) };
 
-    ghost invariant = { λ s. IsConsistent (record { heap = s.heap; cells = s.cells; trail = s.trail.items; marks = s.floor ∷ s.marks.items }) };
+    ghost invariant = { λ s. IsConsistent (record { heap = s.heap; cells = s.cells; trail = s.trail.items; marks = s.marks.floor ∷ s.marks.marks }) };
 }
 
 impl Store {
@@ -77,12 +76,7 @@ impl Store {
             heap,
             cells: BindingArray::new(alloc),
             trail: Vec::new(alloc),
-            floor: Mark {
-                trail: 0,
-                variables: 0,
-                made: 0,
-            },
-            marks: Vec::new(alloc),
+            marks: Marks::new(alloc),
             pending: Vec::new(alloc),
             walked: Vec::new(alloc),
             alloc,
@@ -287,7 +281,7 @@ impl Store {
         ensures ok { OnOk result (BindsFurther self.old self.new ((variable, meaning self.old value) ∷ [])) }
         ensures err { OnErr result (self.new ≡ self.old) }
     {
-        if (variable as usize) < protected(self.floor, &self.marks) {
+        if (variable as usize) < self.marks.protected() {
             self.trail.push(variable)?;
         }
         self.cells.bind(variable, value);
@@ -324,7 +318,7 @@ impl Store {
         ensures young { AreYoung self.now result }
         ensures same { IfSome result (λ first. first ≡ base) }
     {
-        if protected(self.floor, &self.marks) <= base as usize {
+        if self.marks.protected() <= base as usize {
             Some(base)
         } else {
             None
@@ -401,14 +395,14 @@ impl Store {
         requires { mark < length self.now.marks }
         ensures { IfOk result (λ bs. (before after : List Moment) (moment : Moment) → self.now.marks ≡ before ++ moment ∷ after → mark ≡ length before → AreMadeSince moment self.now bs.items) }
     {
-        bindings_after(self.alloc, self.marks[mark], &self.trail, &self.cells)
+        bindings_after(self.alloc, self.marks.at(mark), &self.trail, &self.cells)
     }
 
     /// The bindings that were made since the floor, in the same way.
     pub fn made_since_floor(&self) -> Result<Vec<(u32, BindingCell)>, NoMemory>
         ensures { IfOk result (λ bs. AreMadeSince self.now.floor self.now bs.items) }
     {
-        bindings_after(self.alloc, self.floor, &self.trail, &self.cells)
+        bindings_after(self.alloc, self.marks.floor(), &self.trail, &self.cells)
     }
 
     /// What a variable was bound to, if it is bound: no binding is followed.
@@ -424,7 +418,7 @@ impl Store {
         requires { mark < length self.now.marks }
         ensures { IsNextAtMark self.now mark result }
     {
-        self.marks[mark].variables as u32
+        self.marks.at(mark).variables as u32
     }
 
     /// Variables that were there and free at a mark, by the number of marks before it: all of these that were bound since, and maybe
@@ -433,7 +427,7 @@ impl Store {
         requires { mark < length self.now.marks }
         ensures { IfOk result (λ vs. AreOlderSinceMark self.now mark vs.items) }
     {
-        let at = self.marks[mark];
+        let at = self.marks.at(mark);
         older_variables(self.alloc, &self.trail[at.trail..], at.variables)
     }
 
@@ -456,7 +450,18 @@ impl Store {
         ensures { self.new ≡ over_floor self.old }
     {
         let floor = mark_of(&self.heap, &self.cells, &self.trail);
-        self.floor = floor;
+        self.marks.set_floor(floor);
+    }
+
+    /// Takes the state of the store as its floor, and puts all marks at it.
+    pub fn raise_floor(&mut self) -> Result<(), NoMemory>
+        ensures ok { OnOk result (self.new ≡ raised self.old) }
+        ensures older { Each (IsOlderMoment self.old) self.old.marks }
+        ensures err { OnErr result (self.new ≡ self.old) }
+    {
+        let floor = mark_of(&self.heap, &self.cells, &self.trail);
+        self.marks.raise(floor)?;
+        Ok(())
     }
 
     /// Drops all marks after the oldest ones; what is bound and made stays.
@@ -464,7 +469,7 @@ impl Store {
     pub fn keep_marks(&mut self, count: usize)
         ensures { self.new ≡ with_marks count self.old }
     {
-        self.marks.truncate(count);
+        self.marks.keep(count);
     }
 
     /// Takes the store back to a mark, by the number of marks before it. The mark stays, and those after it are dropped.
@@ -473,8 +478,8 @@ impl Store {
         requires { mark < length self.old.marks }
         ensures { (before after : List Moment) (moment : Moment) → self.old.marks ≡ before ++ moment ∷ after → mark ≡ length before → self.new ≡ taken_back moment (with_marks (mark + 1) self.old) }
     {
-        let at = self.marks[mark];
-        self.marks.truncate(mark + 1);
+        let at = self.marks.at(mark);
+        self.marks.keep(mark + 1);
         free_after(at.trail, &mut self.trail, &mut self.cells);
         self.cells.cut_to(at.variables);
         self.heap.cut_to(at.made);

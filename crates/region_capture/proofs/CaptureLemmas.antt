@@ -339,5 +339,6 @@ module _ (old new : RegionView) (floor : ℕ) (p : Position) (none first : ItemL
     choice_marks = each_marks_kept c.items base floor seen k.choices k.choices choice_marks;
     below = λ named n le. k.below named n (let h = k.high in omega (arith, le, h));
     left = sym (ap (take floor) k.were ∙ (ap (λ n. take n (new.choices ++ k.rest)) (sym same) ∙ take-append_seam new.choices k.rest));
+    left_marks = sym (ap (take floor) k.marked ∙ (ap (λ n. take n (new.store.marks ++ k.moments)) (sym (k.many ∙ same)) ∙ take-append_seam new.store.marks k.moments));
     text = k.text;
   }

@@ -45,4 +45,5 @@ pub record CapturesRegion (old new : RegionView) (floor : ℕ) (p : Position) (c
   pub choice_marks : Each (λ m. Each (MarkGuards floor choices) m.alternatives) choices
   pub below : (named : List NamedTerm) (n : ℕ) → n ≤ floor → height_of_cut (heights_of named new) n ≡ height_of_cut (heights_of named old) n
   pub left : new.choices ≡ take floor old.choices
+  pub left_marks : new.store.marks ≡ take floor old.store.marks
   pub text : new.text ≡ old.text

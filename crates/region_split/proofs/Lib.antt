@@ -25,3 +25,4 @@ pub mod ToldApartLemmas
 pub mod SolvedLemmas
 pub mod PutGoalLemmas
 pub mod SolveLemmas
+pub mod RaisedLemmas

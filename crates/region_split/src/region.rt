@@ -3,14 +3,15 @@ ghost use Rattle.std.specs.Prelude.{◌≡◌, ◌<◌, ◌≤◌, ◌∷◌, If
 ghost use Rattle.std.specs.Arc.{arc_value};
 ghost use Rattle.au_term.specs.Term.{var_bound};
 ghost use Rattle.cell_store.specs.ListGoals.{list_goal};
-ghost use Rattle.cell_store.specs.StoreView.{AddsText, BindsFurther, CanBeBound, IsValueIn, meaning, text_in, value_term, with_numbers, over_floor};
+ghost use Rattle.cell_store.specs.StoreView.{AddsText, BindsFurther, CanBeBound, IsValueIn, meaning, text_in, value_term, with_numbers, over_floor, raised};
+ghost use Rattle.au_model.specs.Terms.Each.{Each};
 ghost use Rattle.run_model.specs.Programs.Clauses.{is_defined};
 ghost use Rattle.clause_compile.specs.AtomNumbers.{name_at};
 ghost use Rattle.region_split.specs.CompoundGoals.{HasNoCompoundFirst, IsCompoundFirst};
 ghost use Rattle.cell_store.specs.UnificationSteps.{IsUnified, OnlyBinds};
 ghost use Rattle.au_model.specs.Terms.Named.{NamedTerm};
 ghost use Rattle.region_split.specs.ChoicePoints.{frames_kept, height_of_cut, IsCatchAt};
-ghost use Rattle.region_split.specs.QueryEnds.{AreEndsAtFloor, AreEndsOldest, MayComeOver};
+ghost use Rattle.region_split.specs.QueryEnds.{AreEndsAtFloor, AreEndsOldest, IsEnd, MayComeOver};
 ghost use Rattle.region_split.specs.Regions.{entries_of, heights_of, items_here, IsLeftAt, IsPositionIn, AreAlternativesIn};
 ghost use Rattle.region_split.specs.StackOperations.{new_region, KeepsPositions, AddsFrame, AddsChoice, CutsTo, TakesNewest, DropsNewest, HasNoClauseOnTop, TakesClause, HasNoSolutionOnTop, TakesSolution, HasFindallAt, AddsResult, StaysStanding};
 
@@ -138,6 +139,16 @@ impl Region {
         ensures { self.new ≡ record self.old { store = over_floor self.old.store } }
     {
         self.store.set_floor();
+    }
+
+    /// Takes the state of the store as its floor, where all choice points are ends of queries: they have come there now.
+    pub fn raise_floor(&mut self) -> Result<(), NoMemory>
+        requires { Each (λ c. IsEnd c.alternatives) self.old.choices }
+        ensures ok { OnOk result (self.new ≡ record self.old { store = raised self.old.store }) }
+        ensures err { OnErr result (self.new ≡ self.old) }
+    {
+        self.store.raise_floor()?;
+        Ok(())
     }
 
     /// The position at which nothing is left to do.

@@ -13,7 +13,7 @@ pub bind-requires-clause-free : goal.bind-requires-clause-free
 bind-requires-clause-free c =
     let s = c.self.inside in
     let can = subst (λ st. CanBeBound st c.args.variable c.args.value) (sym c.self.view_is) c.requires in
-    let free = unbound_cell s.heap s.cells s.trail.items (s.floor ∷ s.marks.items) c.args.variable c.args.value c.self.invariant can in
+    let free = unbound_cell s.heap s.cells s.trail.items (s.marks.floor ∷ s.marks.marks) c.args.variable c.args.value c.self.invariant can in
     elim c.if-variable-protected.branch [
       | then-variable-protected+in_ok-push w ↦ subst (λ (i : Inside). variable_cell i.cells c.args.variable ≡ Free) (sym w.self-inside-is) free
       | else-variable-protected w ↦ subst (λ (i : Inside). variable_cell i.cells c.args.variable ≡ Free) (sym w.self-inside-is) free
@@ -26,15 +26,15 @@ invariant_of-self-2 c =
     let v = c.args.variable in
     let d = c.args.value in
     let can = subst (λ st. CanBeBound st v d) (sym c.self.view_is) c.requires in
-    let older : Each (λ (m : Mark). m.variables ≤ c.protected.result) (s.floor ∷ s.marks.items) = subst (λ ms. Each (λ m. m.variables ≤ c.protected.result) (s.floor ∷ ms)) c.deref.ensures.value c.protected.ensures in
-    subst (λ cs. IsConsistent (parts i.heap cs i.trail.items (i.floor ∷ i.marks.items))) (sym c.bind.ensures)
+    let older : Each (λ (m : Mark). m.variables ≤ c.protected.result) (s.marks.floor ∷ s.marks.marks) = c.protected.ensures in
+    subst (λ cs. IsConsistent (parts i.heap cs i.trail.items (i.marks.floor ∷ i.marks.marks))) (sym c.bind.ensures)
     (elim c.if-variable-protected.branch [
       | then-variable-protected+in_ok-push w ↦
-          subst (λ (j : Inside). IsConsistent (parts j.heap (slice_set j.cells v d) j.trail.items (j.floor ∷ j.marks.items))) (sym w.self-inside-is)
-          (subst (λ t. IsConsistent (parts s.heap (slice_set s.cells v d) t (s.floor ∷ s.marks.items))) (sym w.in_ok-push.ensures.items) (trailed_parts s.heap s.cells s.trail.items (s.floor ∷ s.marks.items) v d c.self.invariant can))
+          subst (λ (j : Inside). IsConsistent (parts j.heap (slice_set j.cells v d) j.trail.items (j.marks.floor ∷ j.marks.marks))) (sym w.self-inside-is)
+          (subst (λ t. IsConsistent (parts s.heap (slice_set s.cells v d) t (s.marks.floor ∷ s.marks.marks))) (sym w.in_ok-push.ensures.items) (trailed_parts s.heap s.cells s.trail.items (s.marks.floor ∷ s.marks.marks) v d c.self.invariant can))
       | else-variable-protected w ↦
-          subst (λ (j : Inside). IsConsistent (parts j.heap (slice_set j.cells v d) j.trail.items (j.floor ∷ j.marks.items))) (sym w.self-inside-is)
-          (younger_parts s.heap s.cells s.trail.items (s.floor ∷ s.marks.items) v d c.self.invariant can c.protected.result w.if-variable-protected.false older)
+          subst (λ (j : Inside). IsConsistent (parts j.heap (slice_set j.cells v d) j.trail.items (j.marks.floor ∷ j.marks.marks))) (sym w.self-inside-is)
+          (younger_parts s.heap s.cells s.trail.items (s.marks.floor ∷ s.marks.marks) v d c.self.invariant can c.protected.result w.if-variable-protected.false older)
     ])
 
 pub returns-clause-ok : goal.returns-clause-ok
@@ -44,15 +44,15 @@ returns-clause-ok c =
     let v = c.args.variable in
     let d = c.args.value in
     let can = subst (λ st. CanBeBound st v d) (sym c.self.view_is) c.requires in
-    let older : Each (λ (m : Mark). m.variables ≤ c.protected.result) (s.floor ∷ s.marks.items) = subst (λ ms. Each (λ m. m.variables ≤ c.protected.result) (s.floor ∷ ms)) c.deref.ensures.value c.protected.ensures in
-    let old = view_of (parts s.heap s.cells s.trail.items (s.floor ∷ s.marks.items)) in
-    subst (λ st. BindsFurther st (view_of (parts i.heap c.bind.new.self i.trail.items (i.floor ∷ i.marks.items))) ((v, meaning st d) ∷ [])) c.self.view_is
-    (subst (λ cs. BindsFurther old (view_of (parts i.heap cs i.trail.items (i.floor ∷ i.marks.items))) ((v, meaning old d) ∷ [])) (sym c.bind.ensures)
+    let older : Each (λ (m : Mark). m.variables ≤ c.protected.result) (s.marks.floor ∷ s.marks.marks) = c.protected.ensures in
+    let old = view_of (parts s.heap s.cells s.trail.items (s.marks.floor ∷ s.marks.marks)) in
+    subst (λ st. BindsFurther st (view_of (parts i.heap c.bind.new.self i.trail.items (i.marks.floor ∷ i.marks.marks))) ((v, meaning st d) ∷ [])) c.self.view_is
+    (subst (λ cs. BindsFurther old (view_of (parts i.heap cs i.trail.items (i.marks.floor ∷ i.marks.marks))) ((v, meaning old d) ∷ [])) (sym c.bind.ensures)
     (elim c.if-variable-protected.branch [
       | then-variable-protected+in_ok-push w ↦
-          subst (λ (j : Inside). BindsFurther old (view_of (parts j.heap (slice_set j.cells v d) j.trail.items (j.floor ∷ j.marks.items))) ((v, meaning old d) ∷ [])) (sym w.self-inside-is)
-          (subst (λ t. BindsFurther old (view_of (parts s.heap (slice_set s.cells v d) t (s.floor ∷ s.marks.items))) ((v, meaning old d) ∷ [])) (sym w.in_ok-push.ensures.items) (trailed_view s.heap s.cells s.trail.items (s.floor ∷ s.marks.items) v d c.self.invariant can))
+          subst (λ (j : Inside). BindsFurther old (view_of (parts j.heap (slice_set j.cells v d) j.trail.items (j.marks.floor ∷ j.marks.marks))) ((v, meaning old d) ∷ [])) (sym w.self-inside-is)
+          (subst (λ t. BindsFurther old (view_of (parts s.heap (slice_set s.cells v d) t (s.marks.floor ∷ s.marks.marks))) ((v, meaning old d) ∷ [])) (sym w.in_ok-push.ensures.items) (trailed_view s.heap s.cells s.trail.items (s.marks.floor ∷ s.marks.marks) v d c.self.invariant can))
       | else-variable-protected w ↦
-          subst (λ (j : Inside). BindsFurther old (view_of (parts j.heap (slice_set j.cells v d) j.trail.items (j.floor ∷ j.marks.items))) ((v, meaning old d) ∷ [])) (sym w.self-inside-is)
-          (younger_view s.heap s.cells s.trail.items (s.floor ∷ s.marks.items) v d c.self.invariant can c.protected.result w.if-variable-protected.false older)
+          subst (λ (j : Inside). BindsFurther old (view_of (parts j.heap (slice_set j.cells v d) j.trail.items (j.marks.floor ∷ j.marks.marks))) ((v, meaning old d) ∷ [])) (sym w.self-inside-is)
+          (younger_view s.heap s.cells s.trail.items (s.marks.floor ∷ s.marks.marks) v d c.self.invariant can c.protected.result w.if-variable-protected.false older)
     ]))

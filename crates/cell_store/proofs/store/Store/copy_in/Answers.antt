@@ -9,18 +9,18 @@ use Rattle.cell_store.proofs.store.Store.copy_in.Goals as goal
 pub invariant_of-self : goal.invariant_of-self
 invariant_of-self c =
     let s = c.self.inside in
-    added_parts s.heap c.push_term.new.self s.cells s.trail.items (s.floor ∷ s.marks.items) c.self.invariant (sound_heap (parts s.heap s.cells s.trail.items (s.floor ∷ s.marks.items)) c.self.invariant) c.push_term.ensures.grown
+    added_parts s.heap c.push_term.new.self s.cells s.trail.items (s.marks.floor ∷ s.marks.marks) c.self.invariant (sound_heap (parts s.heap s.cells s.trail.items (s.marks.floor ∷ s.marks.marks)) c.self.invariant) c.push_term.ensures.grown
 
 pub returns-in_err-place-clause-others : goal.returns-in_err-place-clause-others
 returns-in_err-place-clause-others c =
     let s = c.self.inside in
-    subst (λ st. AddsText st (view_of (parts c.push_term.new.self s.cells s.trail.items (s.floor ∷ s.marks.items)))) c.self.view_is
-    (added_view s.heap c.push_term.new.self s.cells s.trail.items (s.floor ∷ s.marks.items) c.self.invariant (sound_heap (parts s.heap s.cells s.trail.items (s.floor ∷ s.marks.items)) c.self.invariant) c.push_term.ensures.grown)
+    subst (λ st. AddsText st (view_of (parts c.push_term.new.self s.cells s.trail.items (s.marks.floor ∷ s.marks.marks)))) c.self.view_is
+    (added_view s.heap c.push_term.new.self s.cells s.trail.items (s.marks.floor ∷ s.marks.marks) c.self.invariant (sound_heap (parts s.heap s.cells s.trail.items (s.marks.floor ∷ s.marks.marks)) c.self.invariant) c.push_term.ensures.grown)
 
 pub invariant_of-self-2 : goal.invariant_of-self-2
 invariant_of-self-2 c =
     let s = c.self.inside in
-    added_parts s.heap c.push_term.new.self s.cells s.trail.items (s.floor ∷ s.marks.items) c.self.invariant (sound_heap (parts s.heap s.cells s.trail.items (s.floor ∷ s.marks.items)) c.self.invariant) c.push_term.ensures.grown
+    added_parts s.heap c.push_term.new.self s.cells s.trail.items (s.marks.floor ∷ s.marks.marks) c.self.invariant (sound_heap (parts s.heap s.cells s.trail.items (s.marks.floor ∷ s.marks.marks)) c.self.invariant) c.push_term.ensures.grown
 
 pub value-requires-clause-below : goal.value-requires-clause-below
 value-requires-clause-below c =
@@ -34,5 +34,5 @@ returns-clause-term c = c.value.ensures.term ∙ (shifted-zero _ ∙ c.in_ok-pla
 pub returns-clause-others : goal.returns-clause-others
 returns-clause-others c =
     let s = c.self.inside in
-    subst (λ st. AddsText st (view_of (parts c.push_term.new.self s.cells s.trail.items (s.floor ∷ s.marks.items)))) c.self.view_is
-    (added_view s.heap c.push_term.new.self s.cells s.trail.items (s.floor ∷ s.marks.items) c.self.invariant (sound_heap (parts s.heap s.cells s.trail.items (s.floor ∷ s.marks.items)) c.self.invariant) c.push_term.ensures.grown)
+    subst (λ st. AddsText st (view_of (parts c.push_term.new.self s.cells s.trail.items (s.marks.floor ∷ s.marks.marks)))) c.self.view_is
+    (added_view s.heap c.push_term.new.self s.cells s.trail.items (s.marks.floor ∷ s.marks.marks) c.self.invariant (sound_heap (parts s.heap s.cells s.trail.items (s.marks.floor ∷ s.marks.marks)) c.self.invariant) c.push_term.ensures.grown)

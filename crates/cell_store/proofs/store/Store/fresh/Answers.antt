@@ -10,7 +10,7 @@ invariant_of-self-2 c =
     let sum : c.in-Some.next ≡ c.next-first.result + c.args.count = c.in-Some.ensures.1 in
     let fits : c.next-first.result + c.args.count < 2 ^ 32 = c.in-Some.ensures.0 in
     let long = c.in_ok-grow.ensures.long in
-    grown_parts s.heap s.cells c.grow.new.self s.trail.items (s.floor ∷ s.marks.items) c.self.invariant c.in_ok-grow.ensures.same (omega arith) (omega arith)
+    grown_parts s.heap s.cells c.grow.new.self s.trail.items (s.marks.floor ∷ s.marks.marks) c.self.invariant c.in_ok-grow.ensures.same (omega arith) (omega arith)
 
 pub returns-clause-ok : goal.returns-clause-ok
 returns-clause-ok c =
@@ -19,4 +19,4 @@ returns-clause-ok c =
     let sum : c.in-Some.next ≡ c.next-first.result + c.args.count = c.in-Some.ensures.1 in
     let fits : c.next-first.result + c.args.count < 2 ^ 32 = c.in-Some.ensures.0 in
     let long = c.in_ok-grow.ensures.long in
-    grown_view s.heap s.cells c.grow.new.self s.trail.items (s.floor ∷ s.marks.items) c.self.invariant c.in_ok-grow.ensures.same (omega arith) (omega arith) c.args.count (omega arith) ∙ ap (with_numbers c.args.count) c.self.view_is
+    grown_view s.heap s.cells c.grow.new.self s.trail.items (s.marks.floor ∷ s.marks.marks) c.self.invariant c.in_ok-grow.ensures.same (omega arith) (omega arith) c.args.count (omega arith) ∙ ap (with_numbers c.args.count) c.self.view_is

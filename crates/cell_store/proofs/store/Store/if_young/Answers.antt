@@ -9,8 +9,8 @@ use Rattle.cell_store.proofs.store.Store.if_young.Goals as goal
 pub returns-then-protected-base-clause-young : goal.returns-then-protected-base-clause-young
 returns-then-protected-base-clause-young c =
     let s = c.self.inside in
-    let p = parts s.heap s.cells s.trail.items (s.floor ∷ s.marks.items) in
+    let p = parts s.heap s.cells s.trail.items (s.marks.floor ∷ s.marks.marks) in
     let base = c.args.base in
-    let all : Each (λ (m : Mark). m.variables ≤ c.protected.result) (s.floor ∷ s.marks.items) = subst (λ ms. Each (λ m. m.variables ≤ c.protected.result) (s.floor ∷ ms)) c.deref.ensures.value c.protected.ensures in
-    let below = each-more (λ (m : Mark). m.variables ≤ c.protected.result) (λ m. m.variables ≤ base) (λ m l. omega (arith, l, c.if-protected-base.true)) (s.floor ∷ s.marks.items) all in
-    subst (λ (st : StoreView). Each (λ m. m.next ≤ base) (st.floor ∷ st.marks)) c.self.view_is (moments_below p base (s.floor ∷ s.marks.items) c.self.invariant.within below)
+    let all : Each (λ (m : Mark). m.variables ≤ c.protected.result) (s.marks.floor ∷ s.marks.marks) = c.protected.ensures in
+    let below = each-more (λ (m : Mark). m.variables ≤ c.protected.result) (λ m. m.variables ≤ base) (λ m l. omega (arith, l, c.if-protected-base.true)) (s.marks.floor ∷ s.marks.marks) all in
+    subst (λ (st : StoreView). Each (λ m. m.next ≤ base) (st.floor ∷ st.marks)) c.self.view_is (moments_below p base (s.marks.floor ∷ s.marks.marks) c.self.invariant.within below)

@@ -17,17 +17,17 @@ there p ms now i seen lt = let e : length ms ≡ length now.marks = sym (length-
 pub bindings_after-requires-clause-trail : goal.bindings_after-requires-clause-trail
 bindings_after-requires-clause-trail c =
     let s = c.self.inside in
-    let p = parts s.heap s.cells s.trail.items (s.floor ∷ s.marks.items) in
-    let within = there p s.marks.items c.args.self.now c.args.mark (ap (λ (st : StoreView). st.marks) c.self.view_is) c.requires in
-    let own = each_at (IsWithin p) s.marks.items c.args.mark c.index.result.now c.self.invariant.within.1 within c.index.ensures in
-    subst (λ t. c.index.result.now.trail ≤ length t) (sym c.deref.ensures.value) own.older.trail
+    let p = parts s.heap s.cells s.trail.items (s.marks.floor ∷ s.marks.marks) in
+    let within = there p s.marks.marks c.args.self.now c.args.mark (ap (λ (st : StoreView). st.marks) c.self.view_is) c.requires in
+    let own = each_at (IsWithin p) s.marks.marks c.args.mark c.at.result c.self.invariant.within.1 within c.at.ensures.at in
+    subst (λ t. c.at.result.trail ≤ length t) (sym c.deref.ensures.value) own.older.trail
 
 pub bindings_after-requires-clause-variables : goal.bindings_after-requires-clause-variables
 bindings_after-requires-clause-variables c =
     let s = c.self.inside in
-    let p = parts s.heap s.cells s.trail.items (s.floor ∷ s.marks.items) in
-    let within = there p s.marks.items c.args.self.now c.args.mark (ap (λ (st : StoreView). st.marks) c.self.view_is) c.requires in
-    let own = each_at (IsWithin p) s.marks.items c.args.mark c.index.result.now c.self.invariant.within.1 within c.index.ensures in
+    let p = parts s.heap s.cells s.trail.items (s.marks.floor ∷ s.marks.marks) in
+    let within = there p s.marks.marks c.args.self.now c.args.mark (ap (λ (st : StoreView). st.marks) c.self.view_is) c.requires in
+    let own = each_at (IsWithin p) s.marks.marks c.args.mark c.at.result c.self.invariant.within.1 within c.at.ensures.at in
     own.older.variables
 
 pub bindings_after-requires-clause-there : goal.bindings_after-requires-clause-there
@@ -36,13 +36,13 @@ bindings_after-requires-clause-there c = let s = c.self.inside in subst (Each (�
 pub returns : goal.returns
 returns c =
     let s = c.self.inside in
-    let p = parts s.heap s.cells s.trail.items (s.floor ∷ s.marks.items) in
-    let m : Mark = c.index.result.now in
-    let seen : map (moment_at p) s.marks.items ≡ c.args.self.now.marks = ap (λ (st : StoreView). st.marks) c.self.view_is in
-    let within = there p s.marks.items c.args.self.now c.args.mark seen c.requires in
-    let old = each_at (IsConsistentAt p) s.marks.items c.args.mark m c.self.invariant.at_marks.1 within c.index.ensures in
-    let own = each_at (IsWithin p) s.marks.items c.args.mark m c.self.invariant.within.1 within c.index.ensures in
+    let p = parts s.heap s.cells s.trail.items (s.marks.floor ∷ s.marks.marks) in
+    let m : Mark = c.at.result in
+    let seen : map (moment_at p) s.marks.marks ≡ c.args.self.now.marks = ap (λ (st : StoreView). st.marks) c.self.view_is in
+    let within = there p s.marks.marks c.args.self.now c.args.mark seen c.requires in
+    let old = each_at (IsConsistentAt p) s.marks.marks c.args.mark m c.self.invariant.at_marks.1 within c.at.ensures.at in
+    let own = each_at (IsWithin p) s.marks.marks c.args.mark m c.self.invariant.within.1 within c.at.ensures.at in
     IfOk-weaker c.bindings_after.result _ _ (λ bs since before after moment listed place.
-    let marked : moment ≡ moment_at p m = mapped_at (moment_at p) s.marks.items c.args.mark m before after moment within c.index.ensures (seen ∙ listed) place in
+    let marked : moment ≡ moment_at p m = mapped_at (moment_at p) s.marks.marks c.args.mark m before after moment within c.at.ensures.at (seen ∙ listed) place in
     subst (λ x. AreMadeSince x c.args.self.now bs.items) (sym marked) (subst (λ st. AreMadeSince (moment_at p m) st bs.items) c.self.view_is
     (made_since_mark p c.self.invariant m old own bs.items (subst (λ t. AreSinceMark m t s.cells bs.items) c.deref.ensures.value since)))) c.bindings_after.ensures

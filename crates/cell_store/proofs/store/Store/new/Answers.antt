@@ -1,8 +1,9 @@
-use Rattle.std.proofs.Common.{[], ◌∷◌, ◌≡◌, ◌∙◌, ◌<◌, ◌^◌, ap, sym, subst, length, arith}
+use Rattle.std.proofs.Common.{[], ◌∷◌, ◌≡◌, ◌∙◌, ◌<◌, ◌^◌, refl, ap, sym, subst, length, arith}
 use Rattle.std.specs.Arc.{arc_value}
 use Rattle.clause_compile.specs.AtomNumbers.{AreDistinct}
 use Rattle.clause_compile.specs.Places.{CodeView, AreSound}
 use Rattle.cell_store.specs.StoreView.{IsConsistent, view_of, new_store}
+use Rattle.cell_store.specs.Undoing.{MarksView}
 use Rattle.cell_store.proofs.StoreLemmas.{parts, first_mark, new_parts, new_heap, new_view}
 use Rattle.cell_store.proofs.store.Store.new.Goals.{After-new-6}
 use Rattle.cell_store.proofs.store.Store.new.Goals as goal
@@ -14,12 +15,14 @@ invariant_of-result c =
     let count : c.len.result ≡ length program.places = c.len.ensures.count ∙ ap (λ (p : CodeView). length p.places) c.deref-2.ensures in
     let few : length program.places < 2 ^ 32 = let a = c.if-len.false in omega arith in
     let apart : AreDistinct program.names = subst (λ (p : CodeView). AreDistinct p.names) c.deref.ensures c.names-names.ensures.distinct in
-    subst (λ ms. IsConsistent (parts c.in_ok-heap.heap c.new-2.result c.new-3.result.items (first_mark ∷ ms))) (sym c.new-4.ensures.items)
+    subst (λ (w : MarksView). IsConsistent (parts c.in_ok-heap.heap c.new-2.result c.new-3.result.items (w.floor ∷ w.marks))) (sym c.new-4.ensures)
     (subst (λ t. IsConsistent (parts c.in_ok-heap.heap c.new-2.result t (first_mark ∷ []))) (sym c.new-3.ensures.items)
     (subst (λ cs. IsConsistent (parts c.in_ok-heap.heap cs [] (first_mark ∷ []))) (sym c.new-2.ensures) (new_parts program text few apart c.in_ok-heap.heap c.in_ok-heap.ensures)))
 
-whole : (c : After-new-6) → view_of (parts c.in_ok-heap.heap c.new-2.result c.new-3.result.items (first_mark ∷ c.new-4.result.items)) ≡ new_store (arc_value c.args.program)
-whole c = new_view (arc_value c.args.program) c.in_ok-heap.heap c.new-2.result c.new-3.result.items c.new-4.result.items c.in_ok-heap.ensures c.new-2.ensures c.new-3.ensures.items c.new-4.ensures.items
+whole : (c : After-new-6) → view_of (parts c.in_ok-heap.heap c.new-2.result c.new-3.result.items (c.new-4.result.floor ∷ c.new-4.result.marks)) ≡ new_store (arc_value c.args.program)
+whole c =
+    ap (λ (w : MarksView). view_of (parts c.in_ok-heap.heap c.new-2.result c.new-3.result.items (w.floor ∷ w.marks))) c.new-4.ensures
+    ∙ new_view (arc_value c.args.program) c.in_ok-heap.heap c.new-2.result c.new-3.result.items [] c.in_ok-heap.ensures c.new-2.ensures c.new-3.ensures.items refl
 
 pub returns-clause-new : goal.returns-clause-new
 returns-clause-new c = whole c

@@ -14,14 +14,14 @@ use Rattle.cell_store.proofs.store.Store.older_since.Goals as goal
 pub returns : goal.returns
 returns c =
     let s = c.self.inside in
-    let p = parts s.heap s.cells s.trail.items (s.floor ∷ s.marks.items) in
-    let m : Mark = c.index-at.result.now in
-    let seen : map (moment_at p) s.marks.items ≡ c.args.self.now.marks = ap (λ (st : StoreView). st.marks) c.self.view_is in
-    let long : length s.marks.items ≡ length c.args.self.now.marks = sym (length-map s.marks.items (moment_at p)) ∙ ap length seen in
-    let within : c.args.mark < length s.marks.items = let lt = c.requires in omega (arith, long, lt) in
-    let old = each_at (IsConsistentAt p) s.marks.items c.args.mark m c.self.invariant.at_marks.1 within c.index-at.ensures in
-    let own = each_at (IsWithin p) s.marks.items c.args.mark m c.self.invariant.within.1 within c.index-at.ensures in
+    let p = parts s.heap s.cells s.trail.items (s.marks.floor ∷ s.marks.marks) in
+    let m : Mark = c.at-at.result in
+    let seen : map (moment_at p) s.marks.marks ≡ c.args.self.now.marks = ap (λ (st : StoreView). st.marks) c.self.view_is in
+    let long : length s.marks.marks ≡ length c.args.self.now.marks = sym (length-map s.marks.marks (moment_at p)) ∙ ap length seen in
+    let within : c.args.mark < length s.marks.marks = let lt = c.requires in omega (arith, long, lt) in
+    let old = each_at (IsConsistentAt p) s.marks.marks c.args.mark m c.self.invariant.at_marks.1 within c.at-at.ensures.at in
+    let own = each_at (IsWithin p) s.marks.marks c.args.mark m c.self.invariant.within.1 within c.at-at.ensures.at in
     IfOk-weaker c.older_variables.result _ _ (λ vs of before after moment listed place.
-    let marked : moment ≡ moment_at p m = mapped_at (moment_at p) s.marks.items c.args.mark m before after moment within c.index-at.ensures (seen ∙ listed) place in
+    let marked : moment ≡ moment_at p m = mapped_at (moment_at p) s.marks.marks c.args.mark m before after moment within c.at-at.ensures.at (seen ∙ listed) place in
     subst (λ x. AreOlderSince x c.args.self.now vs.items) (sym marked) (subst (λ st. AreOlderSince (moment_at p m) st vs.items) c.self.view_is
     (older_since p c.self.invariant m old own vs.items (subst (λ t. AreOlderOf t m.variables vs.items) (taken_rest m.trail c.deref.result.now s.trail.items c.deref.ensures.value) of)))) c.older_variables.ensures
