@@ -27,7 +27,7 @@ use Rattle.tree_nodes.specs.TreeTables.{stored_body}
 use Rattle.branch_reading.specs.BranchSegments.{own_segments, bindings_on, next_number}
 use Rattle.branch_reading.specs.SettledWays.{is_bound_back, are_bindings_settled}
 use Rattle.task_region.specs.MadeInTurn.{IsMadeBy, CanMake, Makes}
-use Rattle.task_region.specs.PlacesUp.{missing_body, body_at, segments_at}
+use Rattle.task_region.specs.PlacesUp.{missing_body, body_at, segments_above, segments_at}
 use Rattle.task_region.proofs.MadeLemmas.{settled-front, last_settled, bound_next}
 
 falls_to : (code : CodeView) (v : ℕ) (t : Term) (value : BindingCell) → cell_term code value ≡ t → is_bound_back v t ≡ true → IsFalling v value
@@ -123,11 +123,15 @@ place_bindings rows p body e =
     own_above (slice_get (body_at rows p).branches p.index) (body_at rows p).segment []
     ∙ ap (λ (b : Body). b.segment.bindings ++ own_bindings (slice_get b.branches p.index)) e
 
-one_above : (rows : Rows) (p : Place) (places : List Place)
+pub own_over : (rows : Rows) (p : Place) (above : List Segment)
+    → bindings_on (segments_above rows p above) ≡ bindings_on above ++ bindings_on (segments_at rows (p ∷ []))
+own_over rows p above =
+    own_above (slice_get (body_at rows p).branches p.index) (body_at rows p).segment above
+    ∙ ap (λ bs. bindings_on above ++ bs) (sym (own_above (slice_get (body_at rows p).branches p.index) (body_at rows p).segment []))
+
+pub one_above : (rows : Rows) (p : Place) (places : List Place)
     → bindings_on (segments_at rows (p ∷ places)) ≡ bindings_on (segments_at rows places) ++ bindings_on (segments_at rows (p ∷ []))
-one_above rows p places =
-    own_above (slice_get (body_at rows p).branches p.index) (body_at rows p).segment (segments_at rows places)
-    ∙ ap (λ bs. bindings_on (segments_at rows places) ++ bs) (sym (own_above (slice_get (body_at rows p).branches p.index) (body_at rows p).segment []))
+one_above rows p places = own_over rows p (segments_at rows places)
 
 pub bindings-split : (rows : Rows) (xs ys : List Place)
     → bindings_on (segments_at rows (xs ++ ys)) ≡ bindings_on (segments_at rows ys) ++ bindings_on (segments_at rows xs)

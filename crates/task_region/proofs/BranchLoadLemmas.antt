@@ -152,10 +152,9 @@ module _ (rows : Rows) (a : Place) (places : List Place) (own : ℕ) (f : Region
   can_make_all = record { before = []; made = none_made; settled = settled_all }
 
   pub all_bound : (r : RegionView) → Makes f r (bindings_on (segments_at rows (take own places))) → IsBoundOnBranch (branching_at rows places) r.store.now
-  all_bound r makes = record {
-    bound = subst (λ segments. SameValues (bound_by segments) (Some r.store.now.bound)) (sym part) (makes.made [] none_made settled_all).unified;
-    next = makes.next ∙ next_is;
-  }
+  all_bound r makes =
+      let made = subst (λ segments. IsMadeBy (bindings_on segments) r.store.now.bound) (sym part) (makes.made [] none_made settled_all) in
+      record { bound = made.unified; free = made.free; next = makes.next ∙ next_is }
 
 -- all items can be deferred
 deferred_over : (places : List Place) (next : ℕ) → 0 < length places → (items : List BranchItem) → list_all (is_item_settled next) items ≡ true
@@ -256,10 +255,7 @@ module _ (nodes : NodesView) (a : Place) (places : List Place) (r : RegionView) 
 
     bound_there : IsBoundOnBranch way t.region.store.floor
     unfolding left
-    bound_there = record {
-      bound = subst (λ (m : Moment). SameValues (bound_by (segments_on way)) (Some m.bound)) (sym starts.start) unified;
-      next = ap (λ (m : Moment). m.next) starts.start ∙ sym next_left;
-    }
+    bound_there = subst (IsBoundOnBranch way) (sym starts.start) (subst (λ w. IsBoundOnBranch w r.store.now) way_is prepared.bound)
 
   pub loads : (text : TextView) → r.text ≡ text → LoadsTask nodes a text t
   loads text same = record {

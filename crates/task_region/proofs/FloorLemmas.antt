@@ -1,16 +1,20 @@
 -- Ends of a bare floor, one over another.
 use Rattle.std.proofs.Common.{◌≡◌, ◌⊎◌, inl, inr, ℕ, suc, ◌+◌, ◌<◌, ◌≤◌, List, [], ◌∷◌, ◌++◌, length, length-append, None, refl, sym, ap, ◌∙◌, subst, arith}
 use Rattle.std.proofs.lemmas.Bool.{cases_lt}
+use Rattle.std.proofs.Math.ListN.{get_or-append}
+use Rattle.std.proofs.Math.Seq.{get_or-append_seam}
 use Rattle.au_model.specs.Terms.Named.{NamedTerm}
 use Rattle.au_model.specs.Terms.Each.{Each}
 use Rattle.au_model.proofs.EachLemmas.{each-append}
 use Rattle.run_model.specs.Machine.Entries.{EndEntry}
-use Rattle.cell_store.specs.StoreView.{over_floor as floored}
-use Rattle.region_split.specs.ChoicePoints.{Standing, alternative_entries, continuation_at, height_of_cut, standing_over, nothing_standing}
+use Rattle.run_model.specs.Machine.Items.{Continuation}
+use Rattle.cell_store.specs.StoreView.{Moment, raised}
+use Rattle.region_split.specs.ChoicePoints.{RegionSetting, Standing, alternative_entries, choice_entries, continuation_at, height_of_cut, standing_over, nothing_standing, with_entries_on_top}
 use Rattle.region_split.specs.QueryEnds.{IsEnd}
 use Rattle.region_split.specs.Regions.{RegionView, region_setting, standing, entries_of, heights_of}
 use Rattle.region_split.specs.StackOperations.{AddsChoice}
-use Rattle.region_split.specs.declared.choice.Alternatives.TheVariants.{QueryEnd}
+use Rattle.region_split.specs.declared.choice.Alternatives.{Alternatives}
+use Rattle.region_split.specs.declared.choice.Alternatives.TheVariants.{Clauses, Solutions, Elsewhere, Catch, Findall, QueryEnd}
 use Rattle.region_split.specs.declared.choice.ChoicePoint.{ChoicePoint}
 use Rattle.region_split.specs.declared.frame.Position.{Position}
 use Rattle.region_floor.specs.BareFloors.{bare_floor}
@@ -21,17 +25,70 @@ pub none_there : (cs : List ChoicePoint) → length cs ≡ 0 → cs ≡ []
 none_there [] e = refl
 none_there (c ∷ cs) e = absurd (omega (arith, e))
 
--- no end yet
-pub no_floor : (r new : RegionView) → new ≡ record r { store = floored r.store } → length r.choices ≡ 0 → LaysFloor r new 0
-no_floor r new set e = subst (λ x. LaysFloor r x 0) (sym set) (record {
-  entries = λ named. ap (λ (cs : List ChoicePoint). (standing_over (region_setting named r) nothing_standing cs r.store.marks).entries) (none_there r.choices e);
-  below = λ named cut lt. absurd (omega (arith, lt));
-  many = e;
-  ends = subst (Each (λ c. IsEnd c.alternatives)) (sym (none_there r.choices e)) tt;
-  text = refl;
-  now = refl;
-  start = refl;
-})
+-- what ends of queries stand for, over so many others
+record AreFloor (count : ℕ) (st : Standing) : Type 0 where
+  pub entries : st.entries ≡ bare_floor count
+  pub long : length st.heights ≡ suc count
+  pub heights : (cut : ℕ) → cut ≤ count → height_of_cut st.heights cut ≡ cut
+
+end_entry : (s : RegionSetting) (m : Moment) (height : ℕ) (f : Continuation ℕ) (a : Alternatives) → IsEnd a → alternative_entries s m height f a ≡ EndEntry None ∷ []
+end_entry s m height f (Clauses goal clause left) e = absurd e
+end_entry s m height f (Solutions left) e = absurd e
+end_entry s m height f Elsewhere e = absurd e
+end_entry s m height f (Catch catcher recovery) e = absurd e
+end_entry s m height f (Findall list results) e = absurd e
+end_entry s m height f QueryEnd e = refl
+
+one_height : (heights : List ℕ) (count cut : ℕ) → length heights ≡ suc count → ((k : ℕ) → k ≤ count → height_of_cut heights k ≡ k) → cut ≤ suc count → (cut < suc count) ⊎ (suc count ≤ cut)
+    → height_of_cut (heights ++ suc count ∷ []) cut ≡ cut
+one_height heights count cut long same le (inl lt) = get_or-append heights (suc count ∷ []) 0 cut (omega (arith, long, lt)) ∙ same cut (omega (arith, lt))
+one_height heights count cut long same le (inr ge) =
+    let here : cut ≡ length heights = omega (arith, le, ge, long) in
+    ap (height_of_cut (heights ++ suc count ∷ [])) here ∙ (get_or-append_seam heights (suc count) [] 0 ∙ omega (arith, le, ge))
+
+floor_more : (s : RegionSetting) (count : ℕ) (st : Standing) (c : ChoicePoint) (m : Moment) → AreFloor count st → IsEnd c.alternatives → AreFloor (suc count) (with_entries_on_top (choice_entries s st c m) st)
+floor_more s count st c m f e =
+    let own = end_entry s m (length st.entries) (continuation_at s st.heights m c.after) c.alternatives e in
+    let entries : choice_entries s st c m ++ st.entries ≡ bare_floor (suc count) = ap (λ es. es ++ st.entries) own ∙ ap (λ es. EndEntry None ∷ es) f.entries in
+    let size : length (choice_entries s st c m ++ st.entries) ≡ suc count = ap length entries ∙ bare-size (suc count) in
+    record {
+      entries = entries;
+      long = length-append st.heights (length (choice_entries s st c m ++ st.entries) ∷ []) ∙ (let l = f.long in omega (arith, l));
+      heights = λ cut le.
+          ap (λ n. height_of_cut (st.heights ++ n ∷ []) cut) size ∙ one_height st.heights count cut f.long f.heights le (cases_lt cut (suc count));
+    }
+
+ends_stand : (s : RegionSetting) (count : ℕ) (st : Standing) (cs : List ChoicePoint) (ms : List Moment) → AreFloor count st → Each (λ c. IsEnd c.alternatives) cs → length ms ≡ length cs
+    → AreFloor (count + length cs) (standing_over s st cs ms)
+ends_stand s count st [] ms f e l = subst (λ n. AreFloor n st) (omega arith) f
+ends_stand s count st (c ∷ cs) [] f e l = absurd (omega (arith, l))
+ends_stand s count st (c ∷ cs) (m ∷ ms) f e l =
+    subst (λ n. AreFloor n (standing_over s st (c ∷ cs) (m ∷ ms))) (omega arith)
+    (ends_stand s (suc count) (with_entries_on_top (choice_entries s st c m) st) cs ms (floor_more s count st c m f e.0) e.1 (omega (arith, l)))
+
+-- the floor is raised to where ends stand
+pub low_floor : (r new : RegionView) → new ≡ record r { store = raised r.store } → Each (λ c. IsEnd c.alternatives) r.choices → length new.store.marks ≡ length new.choices → LaysFloor r new (length r.choices)
+low_floor r new set ends many = record {
+  entries = λ named. (floor_here named).entries ∙ ap bare_floor count;
+  below = λ named cut lt. (floor_here named).heights cut (omega (arith, lt, count));
+  many = ap length same;
+  ends = subst (Each (λ c. IsEnd c.alternatives)) (sym same) ends;
+  text = ap (λ (x : RegionView). x.text) set;
+  now = ap (λ (x : RegionView). x.store.now) set;
+  start = ap (λ (x : RegionView). x.store.floor) set;
+}
+  where
+    same : new.choices ≡ r.choices
+    same = ap (λ (x : RegionView). x.choices) set
+
+    count : 0 + length new.choices ≡ length r.choices
+    count = let e = ap length same in omega (arith, e)
+
+    none_yet : AreFloor 0 nothing_standing
+    none_yet = record { entries = refl; long = refl; heights = λ cut le. let e : cut ≡ 0 = omega (arith, le) in ap (height_of_cut (0 ∷ [])) e ∙ sym e }
+
+    floor_here : (named : List NamedTerm) → AreFloor (0 + length new.choices) (standing named new)
+    floor_here named = ends_stand (region_setting named new) 0 nothing_standing new.choices new.store.marks none_yet (subst (Each (λ c. IsEnd c.alternatives)) (sym same) ends) many
 
 -- one more
 module _ (old r new : RegionView) (count : ℕ) (nothing : Position) (w : LaysFloor old r count) (a : AddsChoice r new QueryEnd nothing) where

@@ -65,7 +65,7 @@ fall_at (x ∷ xs) h i zero d l m = absurd (omega arith)
 fall_at (x ∷ xs) h zero (suc j) d l m = each_index xs x.node h.0 j d (omega arith)
 fall_at (x ∷ xs) h (suc i) (suc j) d l m = fall_at xs h.1 i j d (omega arith) (omega arith)
 
-number_other : (m n : ℕ) → (m ≡ n → ⊥) → (m == n) ≡ false
+pub number_other : (m n : ℕ) → (m ≡ n → ⊥) → (m == n) ≡ false
 number_other m n h = grind (arith, nat_tests)
 
 pub fall_parted : (s : ℕ) (xs : List AltRef) → AreFallingPlaces (map place_view xs) → IsPartitionedBy (λ (a : AltRef). nat_lt s a.node) xs

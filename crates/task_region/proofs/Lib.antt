@@ -21,3 +21,7 @@ pub mod BranchLoadLemmas
 mod LoadableLemmas
 pub mod AtPlaceLemmas
 pub mod CatchLemmas
+pub mod KeptLemmas
+pub mod HeightByNumberLemmas
+pub mod KeptRegionLemmas
+pub mod BelowLemmas

@@ -24,7 +24,7 @@ pub leads_further : (rows : Rows) (places : List Place) (p : Place) (from to abo
 leads_further rows [] p from to above h e step = (h ∙ e, (above, (step, refl)))
 leads_further rows (q ∷ places) p from to above h e step = (h.0, (h.1.0, (h.1.1.0, leads_further rows places p h.1.0 to above h.1.1.1 e step)))
 
-below_all : (above : Option Place) (m n : ℕ) → IsBelow above m → m < n → IsBelow above n
+pub below_all : (above : Option Place) (m n : ℕ) → IsBelow above m → m < n → IsBelow above n
 below_all None m n h l = tt
 below_all (Some a) m n h l = let first : a.node < m = h in omega arith
 
@@ -77,7 +77,7 @@ places_are_levels nodes read v up was way places stands on leads =
     subst (λ w. AreItsLevels nodes.rows (v ∷ up) w places) same (levels_up nodes.rows read (v ∷ up) k.way (cell_of was) k.around places leads)
 
 -- from the query on
-above_by : (kind : BodyKind) (above : List Segment) → above_in_query kind above ≡ cond (is_query_body kind) [] above
+pub above_by : (kind : BodyKind) (above : List Segment) → above_in_query kind above ≡ cond (is_query_body kind) [] above
 above_by ChoiceBody above = refl
 above_by ConditionBody above = refl
 above_by (CatchBody catcher recovery) above = refl

@@ -14,3 +14,5 @@ pub mod MadeInTurn
 pub mod ScopeHeights
 pub mod TaskLoads
 pub mod TaskCatches
+pub mod DeferringItems
+pub mod KeptRegions

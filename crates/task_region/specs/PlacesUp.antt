@@ -1,5 +1,5 @@
 -- The way up from an alternative, place by place, and what the nodes on it were made from.
-use Rattle.std.specs.Prelude.{◌≡◌, ◌<◌, ℕ, Bool, true, false, List, [], ◌∷◌, ◌++◌, map, take, Option, Some, None, is_some, slice_get}
+use Rattle.std.specs.Prelude.{◌≡◌, ◌<◌, ℕ, Bool, true, false, List, [], ◌∷◌, ◌++◌, map, reverse, take, Option, Some, None, is_some, slice_get}
 use Rattle.au_model.specs.Terms.Each.{Each}
 use Rattle.au_term.specs.declared.segment.Segment.{Segment}
 use Rattle.clause_compile.specs.declared.item.Item.{Item}
@@ -64,6 +64,15 @@ is_query_body QueryBody = true
 abbrev pub IsQueryPart : Rows → List Place → ℕ → Type 0
 IsQueryPart rows places n = segments_on (branching_at rows places) ≡ segments_at rows (take n places)
 
+-- up from a place as far as below another one, which is there
+pub record LeadsBelow (rows : Rows) (places : List Place) (a above : Place) : Type 0 where
+  pub leads : LeadsUp rows places (Some a) (Some above)
+  pub there : is_some (row_of_node rows above.node) ≡ true
+
+-- no query begins at these places
+abbrev pub HaveNoQuery : Rows → List Place → Type 0
+HaveNoQuery rows places = Each (λ p. is_query_body (body_at rows p).kind ≡ false) places
+
 -- each is at a node that is there
 abbrev pub AreAtNodes : Rows → List Place → Type 0
 AreAtNodes rows places = Each (λ p. is_some (row_of_node rows p.node) ≡ true) places
@@ -72,6 +81,16 @@ AreAtNodes rows places = Each (λ p. is_some (row_of_node rows p.node) ≡ true)
 abbrev pub AreFallingPlaces : List Place → Type 0
 AreFallingPlaces [] = Unit {0}
 AreFallingPlaces (p ∷ places) = Each (λ q. q.node < p.node) places × AreFallingPlaces places
+
+-- the numbers of nodes at places, the outermost first
+abbrev pub AreNumbersOf : List Place → List ℕ → Type 0
+AreNumbersOf places numbers = numbers ≡ reverse (map (λ (p : Place). p.node) places)
+
+-- those on the way up from a place
+pub record AreNumbersUp (rows : Rows) (a : Place) (numbers : List ℕ) : Type 0 where
+  pub places : List Place
+  pub up : AreAllUp rows a places
+  pub are : AreNumbersOf places numbers
 
 -- the places up from an alternative of a tree are those of its levels
 pub record AreItsLevels (rows : Rows) (levels : List Level) (way : Branching) (places : List Place) : Type 0 where

@@ -1,6 +1,8 @@
 -- The region of a task that is loaded from the tree.
-use Rattle.std.specs.Prelude.{◌≡◌, ◌==◌, ℕ, Bool, true, not, List, [], ◌∷◌, length, Some, IsSome}
+use Rattle.std.specs.Prelude.{◌≡◌, ◌==◌, ℕ, Bool, true, false, not, List, [], ◌∷◌, length, Some, IsSome}
+use Rattle.au_term.specs.Term.{VarTerm}
 use Rattle.au_model.specs.Terms.MostGeneral.{SameValues}
+use Rattle.au_model.specs.Terms.Substitutions.{value_of}
 use Rattle.run_model.specs.Machine.Entries.{PlainEntry}
 use Rattle.run_model.specs.Machine.Items.{Continuation}
 use Rattle.run_model.specs.Programs.Clauses.{Clause}
@@ -19,9 +21,9 @@ use Rattle.tree_model.specs.NumberedTrees.{IsNumberedStatus}
 use Rattle.tree_nodes.specs.Bodies.{BodyKind, ChoiceBody, ConditionBody, CatchBody, FindallBody, QueryBody, Branching, Reading}
 use Rattle.tree_nodes.specs.Rows.{Rows, row_of_node}
 use Rattle.tree_nodes.specs.TreeTables.{NodesView, IsTableOf, IsWayTo}
-use Rattle.branch_reading.specs.BranchSegments.{segments_on, bound_by, next_number}
+use Rattle.branch_reading.specs.BranchSegments.{segments_on, bindings_on, bound_by, next_number}
 use Rattle.branch_reading.specs.Readings.{continuation_on, named_of, query_on, reading}
-use Rattle.branch_reading.specs.SettledWays.{is_way_settled}
+use Rattle.branch_reading.specs.SettledWays.{binds_variable, is_way_settled}
 use Rattle.task_region.specs.PlacesUp.{AreAllUp, branching_at}
 
 -- the second alternative of a catch or a findall is no task while it sleeps, and goes on below a node of its own
@@ -61,9 +63,10 @@ StandsAtStart nodes a clauses t =
     → IsTableOf nodes read (plug (v ∷ up) was) → IsWayTo nodes.rows (v ∷ up) way
     → StandsOnRun (run_on_branch clauses (v ∷ up) job way) 0 (named_of (query_on job way)) t
 
--- what was bound at a moment is what is bound on a branch, with its next variable number
+-- what was bound at a moment is what is bound on a branch, and nothing else, with its next variable number
 pub record IsBoundOnBranch (way : Branching) (m : Moment) : Type 0 where
   pub bound : SameValues (bound_by (segments_on way)) (Some m.bound)
+  pub free : (v : ℕ) → binds_variable v (bindings_on (segments_on way)) ≡ false → value_of m.bound v ≡ VarTerm v
   pub next : m.next ≡ next_number (segments_on way)
 
 -- a region has this text, no choice point, and what is bound at the places up a branch

@@ -1,23 +1,21 @@
 //! Heights of nodes over a branch.
-ghost use Rattle.std.specs.Prelude.{◌≡◌, ◌<◌, ◌^◌, length, map};
-ghost use Rattle.tree_model.specs.EventViews.{place_view};
+ghost use Rattle.std.specs.Prelude.{◌≡◌, ◌<◌, ◌^◌, List, length};
+ghost use Rattle.tree_model.specs.Levels.{Place};
 ghost use Rattle.tree_nodes.specs.Rows.{scope_number};
-ghost use Rattle.task_region.specs.PlacesUp.{AreFallingPlaces};
+ghost use Rattle.task_region.specs.PlacesUp.{AreFallingPlaces, AreNumbersOf};
 ghost use Rattle.task_region.specs.ScopeHeights.{height_among};
 
 use clause_compile::Scope;
-use tree_model::AltRef;
 
-/// How many nodes of a branch a cut to a scope leaves, by the places up the branch.
-pub(crate) fn height(places: &[AltRef], scope: Scope) -> u32
-    requires falling { AreFallingPlaces (map place_view places.now) }
-    requires few { length places.now < 2 ^ 32 }
-    ensures { result ≡ height_among (map place_view places.now) (scope_number scope) }
+/// How many nodes of a branch a cut to a scope leaves, by the numbers of the nodes on the way down the branch.
+pub(crate) fn height(numbers: &[u64], scope: Scope) -> u32
+    requires few { length numbers.now < 2 ^ 32 }
+    ensures { (places : List Place) → AreNumbersOf places numbers.now → AreFallingPlaces places → result ≡ height_among places (scope_number scope) }
 {
     let number = number(scope);
-    let at = places.partition_point(|place| number < place.node);
-    if at < places.len() && places[at].node == number {
-        (places.len() - at) as u32
+    let at = numbers.partition_point(|node| *node < number);
+    if at < numbers.len() && numbers[at] == number {
+        at as u32 + 1
     } else {
         0
     }

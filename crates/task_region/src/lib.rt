@@ -5,7 +5,7 @@
 //! To load a branch is to make the region in which a worker runs an alternative of the shared tree: what is bound on the branch is
 //! bound there, and what the alternative has left to do is deferred, with heights over the branch in place of the numbers of nodes.
 //! `load_task` costs the nodes on the branch, the bindings and terms since its query, and for each item the logarithm of the number
-//! of nodes.
+//! of nodes; where a kept region goes down, only the nodes and bindings below that are counted.
 #![tactic(auto)]
 
 mod ahead;
@@ -17,6 +17,7 @@ mod deferred;
 mod floor;
 mod heights;
 mod items;
+mod kept;
 pub mod laws;
 mod load;
 mod loading;
@@ -29,7 +30,8 @@ mod start;
 mod task;
 
 pub use deferred::DeferredItem;
-pub use load::{bound_region, load_task};
+pub use kept::KeptRegion;
+pub use load::{LoadedTask, bound_region, load_task};
 pub use loading::{AfterDeferred, take_deferred};
 pub use places::places_up;
 pub use running::{TaskRan, TaskStop};

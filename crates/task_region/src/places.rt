@@ -1,9 +1,10 @@
 //! The way up from an alternative.
-ghost use Rattle.std.specs.Prelude.{◌≡◌, ◌≤◌, IfOk, IsSome, length, map};
+ghost use Rattle.std.specs.Prelude.{◌≡◌, ◌≤◌, ◌++◌, false, IfOk, IfSome, IsSome, OnOk, length, map, reverse};
 ghost use Rattle.tree_model.specs.EventViews.{place_view};
 ghost use Rattle.tree_nodes.specs.Bodies.{kind_view};
 ghost use Rattle.tree_nodes.specs.Rows.{row_of_node};
-ghost use Rattle.task_region.specs.PlacesUp.{AreAllUp, AreAtNodes, IsQueryPart, is_query_body};
+ghost use Rattle.task_region.specs.PlacesUp.{AreAllUp, AreAtNodes, HaveNoQuery, IsQueryPart, LeadsBelow, is_query_body};
+ghost use Rattle.tree_model.specs.declared.places.AltRef.{AltRef};
 
 use au_term::NoMemory;
 use std::alloc::Global;
@@ -22,6 +23,56 @@ pub fn places_up(nodes: &Nodes, at: AltRef, alloc: Global) -> Result<Vec<AltRef>
         next = nodes.parent(place.node);
     }
     Ok(places)
+}
+
+/// The places on the way up from an alternative as far as below another one, the innermost first; none where it is not below that.
+pub(crate) fn places_below(
+    nodes: &Nodes,
+    at: AltRef,
+    above: AltRef,
+    alloc: Global,
+) -> Result<Option<Vec<AltRef>>, NoMemory>
+    requires { IsSome (row_of_node nodes.now.rows at.node) }
+    ensures { IfOk result (λ found. IfSome found (λ places. LeadsBelow nodes.now.rows (map place_view places.items) (place_view at) (place_view above))) }
+{
+    let mut places = Vec::new(alloc);
+    let mut next = Some(at);
+    while let Some(place) = next {
+        if place.node == above.node && place.alternative == above.alternative {
+            return Ok(Some(places));
+        }
+        if place.node <= above.node {
+            return Ok(None);
+        }
+        places.push(place)?;
+        next = nodes.parent(place.node);
+    }
+    Ok(None)
+}
+
+/// The numbers of the nodes at places are put behind others, those of the last place first.
+pub(crate) fn push_numbers(numbers: &mut Vec<u64>, places: &[AltRef]) -> Result<(), NoMemory>
+    ensures { OnOk result (numbers.new.items ≡ numbers.old.items ++ reverse (map (λ (a : AltRef). a.node) places.now)) }
+{
+    let mut left = places.len();
+    while 0 < left {
+        left -= 1;
+        numbers.push(places[left].node)?;
+    }
+    Ok(())
+}
+
+/// Whether a query begins at one of the places.
+pub(crate) fn has_query(nodes: &Nodes, places: &[AltRef]) -> bool
+    requires { AreAtNodes nodes.now.rows (map place_view places.now) }
+    ensures { result ≡ false → HaveNoQuery nodes.now.rows (map place_view places.now) }
+{
+    for place in places {
+        if is_query(&nodes.body(place.node).kind) {
+            return true;
+        }
+    }
+    false
 }
 
 /// How many of the places up a branch are those from its query on.

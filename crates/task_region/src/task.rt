@@ -1,6 +1,7 @@
 //! The region of a task.
-ghost use Rattle.std.specs.Prelude.{◌≡◌, IfOk, OnOk, length, map};
+ghost use Rattle.std.specs.Prelude.{◌≡◌, ◌≤◌, IfOk, OnOk, length, map};
 ghost use Rattle.au_model.specs.Terms.Each.{Each};
+ghost use Rattle.region_split.specs.QueryEnds.{IsEnd};
 ghost use Rattle.task_region.specs.DeferredItems.{item_of, IsDeferredOver};
 ghost use Rattle.task_region.specs.TaskStarts.{StartsTask};
 ghost use Rattle.task_region.specs.TaskStops.{RunsTask};
@@ -40,14 +41,15 @@ impl Model for TaskRegion {
 }
 
 impl TaskRegion {
-    /// The region of a task whose branch has so many nodes, in a region that has no choice point and in whose store the
-    /// bindings of the branch are made: all that its alternative had left to do is deferred.
+    /// The region of a task whose branch has so many nodes, in a region that has no choice points but ends of queries for some of them
+    /// and in whose store the bindings of the branch are made: all that its alternative had left to do is deferred.
     pub fn new(
         region: Region,
         floor: u32,
         deferred: Vec<DeferredItem>,
     ) -> Result<TaskRegion, NoMemory>
-        requires none { length region.choices ≡ 0 }
+        requires ends { Each (λ c. IsEnd c.alternatives) region.choices }
+        requires few { length region.choices ≤ floor }
         requires deferred { Each (IsDeferredOver region.store.now.next floor) (map item_of deferred.items) }
         ensures starts { IfOk result (StartsTask region floor (map item_of deferred.items)) }
     {
