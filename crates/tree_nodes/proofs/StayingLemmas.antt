@@ -1,9 +1,8 @@
 -- Rows stay below what they are below, and made from what they were made from, however often one of them is changed.
-use Rattle.std.proofs.Common.{◌≡◌, ◌≢◌, ℕ, ◌<◌, ◌≤◌, [], ◌∷◌, ◌++◌, length, Option, Some, None, Result, Ok, Err}
-use Rattle.std.proofs.Common.{refl, sym, ap, ◌∙◌, subst, arith, inl, inr, length-set}
-use Rattle.std.proofs.lemmas.Bool.{cases_eq, cases_lt}
+use Rattle.std.proofs.Common.{◌≡◌, ◌≢◌, ℕ, ◌<◌, ◌≤◌, [], ◌∷◌, ◌++◌, length, Option, Some, None}
+use Rattle.std.proofs.Common.{refl, sym, ap, ◌∙◌, subst, arith, inl, inr}
+use Rattle.std.proofs.lemmas.Bool.{cases_eq}
 use Rattle.std.proofs.lemmas.List.{length-append}
-use Rattle.std.specs.Prelude.{slice_set, OnOk, OnErr}
 use Rattle.tree_model.specs.Levels.{Place}
 use Rattle.tree_nodes.specs.declared.row.Shortened.{Shortened}
 use Rattle.tree_nodes.specs.declared.row.Shortened.TheVariants as shortened
@@ -13,9 +12,7 @@ use Rattle.tree_nodes.specs.Drops.{IsShortenedAt}
 use Rattle.tree_nodes.specs.Puts.{IsReplaced, IsLinked}
 use Rattle.tree_nodes.specs.Skipping.{no_rows}
 use Rattle.tree_nodes.specs.Staying.{WasMadeAs, StayMade, AreAllSame, IsMadeAs}
-use Rattle.tree_nodes.specs.TreeTables.{NodesView}
 use Rattle.tree_nodes.proofs.AddLemmas.{row_at-more}
-use Rattle.tree_nodes.proofs.RowLemmas.{row_at-set_same, row_at-set_other, row_at_past}
 use Rattle.tree_nodes.proofs.SkipLemmas.{row_at-skipped, length-skipped}
 
 -- nothing has changed
@@ -70,18 +67,6 @@ made_at old new i longer others here = record {
   ];
 }
 
--- a row below the same and made from the same is in a row's place, or the row is gone
-pub made_set : (rows : Rows) (i : ℕ) (o : Option StoredNode) → IsMadeAs (row_of_node rows i) o → StayMade rows (slice_set rows i o)
-made_set rows i o h =
-    let many = length-set rows i o in
-    made_at rows (slice_set rows i o) i (omega (arith, many)) (λ m ne. row_at-set_other rows i o m ne) (elim (cases_lt i (length rows)) [
-      | inl l ↦ subst (IsMadeAs (row_of_node rows i)) (sym (row_at-set_same rows i o l)) h
-      | inr l ↦ subst (IsMadeAs (row_of_node rows i)) (sym (row_at_past (slice_set rows i o) i (omega (arith, l, many)))) tt
-    ])
-
-pub made_dropped : (rows : Rows) (i : ℕ) → StayMade rows (slice_set rows i None)
-made_dropped rows i = made_set rows i None tt
-
 -- one more row, or numbers that name none
 pub made_more : (rows : Rows) (r : Option StoredNode) → StayMade rows (rows ++ r ∷ [])
 made_more rows r = record {
@@ -120,8 +105,3 @@ pub made_shortened : (rows new : Rows) (n : ℕ) (s : Shortened) → IsShortened
 made_shortened rows new n s h =
     let many = h.length in
     made_at rows new n (omega (arith, many)) h.same (shortened_made (row_of_node rows n) (row_of_node new n) s h.here)
-
--- a call either changes something or fails and changes nothing
-pub made_either : {A E : Type 0} (old new : NodesView) (r : Result A E) → OnOk r (StayMade old.rows new.rows) → OnErr r (new ≡ old) → StayMade old.rows new.rows
-made_either old new (Ok x) h k = h
-made_either old new (Err e) h k = made_unchanged old.rows new.rows (ap (λ (o : NodesView). o.rows) k)
