@@ -2,6 +2,7 @@
 ghost use Rattle.std.specs.Prelude.{◌≡◌, IfOk, OnOk};
 ghost use Rattle.std.specs.Arc.{arc_value};
 ghost use Rattle.tree_model.specs.EventViews.{place_view};
+ghost use Rattle.task_region.specs.KeptRegions.{IsOnWay};
 ghost use Rattle.task_region.specs.TaskLoads.{LoadsTask};
 
 use crate::common::{Top, number, top_of_cell, variable};
@@ -16,7 +17,7 @@ use std::alloc::Global;
 use std::process::Abort;
 use std::sync::Arc;
 use std::test::Fail;
-use task_region::{TaskRegion, TaskStop, load_task};
+use task_region::{LoadedTask, TaskRegion, TaskStop, load_task};
 use tree_model::AltRef;
 use tree_nodes::{NodeBody, Nodes};
 
@@ -113,6 +114,22 @@ pub(crate) fn segment(alloc: Global, value: Option<i64>) -> Result<Segment, Fail
 }
 
 /// Loads an alternative.
+pub(crate) fn loaded(
+    rt: &impl Abort,
+    alloc: Global,
+    nodes: &Nodes,
+    at: AltRef,
+    text: Arc<Text>,
+) -> Result<LoadedTask, Fail>
+    ensures loads { IfOk result (λ l. LoadsTask nodes.now (place_view at) (arc_value text) l.task) }
+    ensures way { IfOk result (λ l. IsOnWay nodes.now.rows (place_view at) (arc_value text) l.numbers.items l.task) }
+{
+    assert!(rt; nodes.has(at.node));
+    assert!(rt; is_loadable(nodes, alloc, at)?);
+    Ok(load_task(nodes, at, alloc, text, None)?)
+}
+
+/// Its task.
 pub(crate) fn load(
     rt: &impl Abort,
     alloc: Global,
@@ -123,9 +140,8 @@ pub(crate) fn load(
     ensures text { IfOk result (λ task. task.region.text ≡ arc_value text) }
     ensures loads { IfOk result (LoadsTask nodes.now (place_view at) (arc_value text)) }
 {
-    assert!(rt; nodes.has(at.node));
-    assert!(rt; is_loadable(nodes, alloc, at)?);
-    Ok(load_task(nodes, at, alloc, text)?)
+    let LoadedTask { task, numbers: _ } = loaded(rt, alloc, nodes, at, text)?;
+    Ok(task)
 }
 
 /// Why a task stopped.

@@ -4,7 +4,7 @@ ghost use Rattle.std.specs.Str.{IsAscii};
 use crate::bodies::kind_of;
 use crate::captures::{Bound, Kind, only, top_of};
 use crate::common::{Top, expect, number, variable};
-use crate::loads::{add, before, load, one, place, text};
+use crate::loads::{add, before, loaded, one, place, text};
 use au_model::build::{atom, compound, single, unary};
 use au_term::{Atom, Cell, FlatTerm, NoMemory};
 use branch_reading::query_body;
@@ -16,7 +16,7 @@ use std::sync::Arc;
 use std::test::Fail;
 use task_publishing::bodies_of_task;
 use task_publishing::laws::tasks_stop_on_runs;
-use task_region::TaskStop;
+use task_region::{LoadedTask, TaskStop};
 use tree_model::AltRef;
 use tree_nodes::{NodeBody, Nodes};
 
@@ -64,10 +64,14 @@ fn bodies_after(
     let text = text(alloc)?;
     let code = text.code()?;
     let kinds = GoalKinds::new(alloc, &code)?;
-    let mut task = load(rt, alloc, nodes, at, text)?;
+    let LoadedTask { task, numbers } = loaded(rt, alloc, nodes, at, text)?;
+    let mut task = task;
     let ran = task.run(alloc, &kinds, limit)?;
     match ran.stop {
-        TaskStop::Limit => Ok(bodies_of_task(nodes, at, alloc, task)?),
+        TaskStop::Limit => {
+            let (bodies, _region) = bodies_of_task(nodes, at, alloc, task, &numbers)?;
+            Ok(bodies)
+        }
         _ => Err("a goal")?,
     }
 }

@@ -1,11 +1,10 @@
 -- Marks at a floor, and later ones.
-use Rattle.std.proofs.Common.{◌≡◌, ◌+◌, ◌-◌, ◌<◌, ◌≤◌, ℕ, zero, suc, List, [], ◌∷◌, ◌++◌, length, get_or, map, take, drop, replicate, refl, sym, ap, ◌∙◌, subst, arith}
+use Rattle.std.proofs.Common.{◌≡◌, ◌+◌, ◌-◌, ◌<◌, ◌≤◌, ℕ, zero, suc, List, [], ◌∷◌, length, get_or, map, take, replicate, refl, sym, ap, ◌∙◌, subst, arith}
 use Rattle.std.proofs.lemmas.List.{length-replicate, take-append-le, take-replicate, append-nil}
 use Rattle.std.proofs.Math.Seq.{take-append-add}
 use Rattle.au_model.specs.Terms.Each.{Each}
-use Rattle.cell_store.specs.HeapView.{HeapView, heap_text, cut_heap}
-use Rattle.cell_store.specs.CellMeanings.{AreConsistent}
-use Rattle.cell_store.specs.StoreView.{Moment, IsConsistent, IsConsistentAt, IsOlderMoment, moment_at, moment_of, raised, view_of}
+use Rattle.cell_store.specs.HeapView.{HeapView}
+use Rattle.cell_store.specs.StoreView.{IsConsistent, IsConsistentAt, IsOlderMoment, moment_at, moment_of, raised, view_of}
 use Rattle.cell_store.specs.Undoing.{Parts, IsOlderMark, IsWithin, AreNested, mark_now, marks_over, undone}
 use Rattle.cell_store.specs.declared.mark.Mark.{Mark}
 use Rattle.cell_store.proofs.MadeBindingLemmas.{keeps}

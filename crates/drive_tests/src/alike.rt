@@ -9,7 +9,7 @@ use text_load::{Job, load};
 use toplevel::library;
 
 /// The room for what a run writes.
-const ROOM: usize = 100_000;
+const ROOM: usize = 300_000;
 
 /// A sink with room.
 pub(crate) fn sink(alloc: Global) -> Result<MemorySink, Fail> {

@@ -113,6 +113,37 @@ fn answers_after_catches(rt: HostRuntime) -> Result<(), Fail> {
     Ok(())
 }
 
+/// Loops that write a line at each step: a recursion, one behind a cut, one over a list, and facts that are tried one after another.
+static LINES: [&str; 4] = [
+    "l(0). l(N) :- N > 0, write(N), nl, M is N - 1, l(M). ?- l(2000).",
+    "l(0) :- !. l(N) :- write(N), nl, M is N - 1, l(M). ?- l(2000), write(end).",
+    "w([]). w([X|L]) :- write(X), nl, w(L). l(0, []). l(N, [N|L]) :- N > 0, M is N - 1, l(M, L). ?- l(500, L), w(L), L = [X|_].",
+    "p(1, a). p(2, b). p(3, c). p(4, d). ?- p(X, Y), write(X), nl, write(Y), nl, fail. ?- p(X, _), write(X), nl, X > 2.",
+];
+
+/// A worker's region goes down with the loop.
+#[test]
+fn lines_in_loops(rt: HostRuntime) -> Result<(), Fail> {
+    for text in &LINES {
+        assert!(rt; is_driven_alike(rt.alloc(), text, 20_000)?, "{text}");
+    }
+    Ok(())
+}
+
+/// The same, where the budget stops them on the way.
+#[test]
+fn lines_under_budgets(rt: HostRuntime) -> Result<(), Fail> {
+    for text in &LINES {
+        for budget in 1..60 {
+            assert!(rt;
+                is_driven_alike(rt.alloc(), text, budget)?,
+                "{text} {budget}"
+            );
+        }
+    }
+    Ok(())
+}
+
 /// How the run of a text ends, and how many bytes its sink takes, which has room for so many.
 fn end_in_room(alloc: Global, text: &str, out: &mut MemorySink) -> Result<(RunEnd, usize), Fail> {
     let job = job_of(alloc, text)?;

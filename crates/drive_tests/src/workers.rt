@@ -154,7 +154,7 @@ pub(crate) fn serve_one<J: JobBrand>(
         give_up(tree, run, worker, at);
     } else if tree.is_going() && tree.is_out(worker, at) {
         let mut waiting = Waiting(0 < worker);
-        serve(tree, run, worker, at, limit, &mut waiting, alloc)?;
+        let _kept = serve(tree, run, worker, at, limit, None, &mut waiting, alloc)?;
     }
     Ok(())
 }

@@ -18,12 +18,13 @@ use Rattle.front_goals.specs.SolutionBranches.{AreSolutionBranches, IsSolutionBr
 use Rattle.front_goals.specs.SolvedSolutions.{IsRegionTakenBack}
 
 pub stays_as_it_is : (r : RegionView) (position : Position) → IsPositionIn r position → IsRegionTakenBack r r position
-stays_as_it_is r position h = record { now = refl; floor = refl; keeps = keeps_same (text_in r.store); there = h }
+stays_as_it_is r position h = record { now = refl; floor = refl; text = refl; keeps = keeps_same (text_in r.store); there = h }
 
 pub back_twice : (a b c : RegionView) (position : Position) → IsRegionTakenBack a b position → IsRegionTakenBack b c position → IsRegionTakenBack a c position
 back_twice a b c position p q = record {
   now = q.now ∙ p.now;
   floor = q.floor ∙ p.floor;
+  text = q.text ∙ p.text;
   keeps = keeps_twice (text_in a.store) (text_in b.store) (text_in c.store) p.keeps q.keeps;
   there = q.there;
 }

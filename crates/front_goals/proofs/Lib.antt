@@ -8,3 +8,4 @@ pub mod RaisedLemmas
 pub mod SolutionReadingLemmas
 pub mod SolutionLemmas
 pub mod AskLemmas
+pub mod KeptLemmas

@@ -114,6 +114,7 @@ module _ (r r1 r2 : RegionView) (s : SolutionView) (position : Position) (adds :
     taken_back = record {
       now = back.now;
       floor = ap (λ (st : StoreView). st.floor) takes.store ∙ (all_stays.floor ∙ ap (λ (st : StoreView). st.floor) first_store);
+      text = back.text;
       keeps =
           subst (λ code. Keeps (text_in r.store) code) (sym text_back)
           (subst (λ (st : StoreView). Keeps (text_at st r.store.now) (text_at r3.store r.store.now)) second_store kept_there);

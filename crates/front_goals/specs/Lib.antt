@@ -2,3 +2,4 @@ pub mod SolvedSolutions
 pub mod SolutionBranches
 pub mod RepliesNext
 pub mod RaisedBalls
+pub mod KeptAtFront

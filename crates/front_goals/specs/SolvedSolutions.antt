@@ -30,6 +30,7 @@ WritesSolvedOr old new es (Some bindings) = AreAllSolved old new es × AreWritte
 pub record IsRegionTakenBack (old new : RegionView) (position : Position) : Type 0 where
   pub now : new.store.now ≡ old.store.now
   pub floor : new.store.floor ≡ old.store.floor
+  pub text : new.text ≡ old.text
   pub keeps : Keeps (text_in old.store) (text_in new.store)
   pub there : IsPositionIn new position
 

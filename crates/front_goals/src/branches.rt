@@ -25,7 +25,8 @@ pub(crate) fn solution_branches(
 ) -> Result<Vec<Branch>, NoMemory>
     requires there { AreSolutionsHere region.old solutions }
     requires position { IsPositionIn region.old position }
-    ensures { IfOk result (λ branches. AreSolutionBranches region.old node follows.now solutions branches.items) }
+    ensures branches { IfOk result (λ branches. AreSolutionBranches region.old node follows.now solutions branches.items) }
+    ensures back { IfOk result (λ _. IsRegionTakenBack region.old region.new position) }
 {
     let mut branches = Vec::new(alloc);
     let mut left = solutions;

@@ -1,5 +1,5 @@
 -- A region whose store's state becomes its floor, under ends of queries alone.
-use Rattle.std.proofs.Common.{◌≡◌, ◌≤◌, ℕ, ◌+◌, List, [], ◌∷◌, map, refl, sym}
+use Rattle.std.proofs.Common.{ℕ, ◌+◌, List, [], ◌∷◌, map, refl}
 use Rattle.au_model.specs.Terms.Each.{Each}
 use Rattle.cell_store.specs.StoreView.{Moment, IsOlderMoment, raised}
 use Rattle.region_split.specs.ChoicePoints.{RegionSetting, code_at, AreAlternativesAt, AreChoicesOver, IsChoiceOver}

@@ -8,10 +8,6 @@ use Rattle.task_stops.specs.WakingPlaces.{WakingClosingsAreNoCatch}
 use Rattle.task_stops.specs.WokenBodies.{IsGivenFor}
 use Rattle.task_world.proofs.EventLemmas.{legal}
 use Rattle.task_world.specs.FrontSteps.{MayClose, front_event}
-use Rattle.tree_closing.specs.Closings.{HasSleeper, is_waking}
-use Rattle.tree_closing.specs.Sleeping.{IsBesideSleeper}
-use Rattle.tree_closing.specs.declared.way_up.Beside.{Beside}
-use Rattle.tree_closing.specs.declared.way_up.Beside.TheVariants.{Same, Closes, Gathers, Ends}
 use Rattle.tree_closing.specs.declared.way_up.Closing.{Closing}
 use Rattle.tree_core.specs.Histories.{History, TreeView, NodesStand, state_of, with_event}
 use Rattle.tree_core.specs.Turns.{where_legal}
@@ -23,7 +19,7 @@ use Rattle.tree_model.specs.Nodes.{Pending}
 use Rattle.tree_model.specs.SoundTrees.{IsSound}
 use Rattle.tree_model.specs.TreeStates.{TreeState}
 use Rattle.tree_nodes.specs.Bodies.{Body}
-use Rattle.tree_nodes.specs.Rows.{Rows, credit_view}
+use Rattle.tree_nodes.specs.Rows.{credit_view}
 use Rattle.task_stops.proofs.CloseLemmas.{sleeps_there}
 
 module _ (v : TreeView) (w : ℕ) (a : Place) (closing : Closing) (out : is_some (taken_at w a (state_of v.history)) ≡ true) (may : MayClose v w a closing) where

@@ -11,11 +11,12 @@ use Rattle.scheduler.specs.StoppedTasks.{HasStoppedOut}
 use Rattle.scheduler.specs.declared.running.StoppedTask.{StoppedTask}
 use Rattle.scheduler.proofs.FrontLemmas.{answer_at_world, goal_at_world, removal_at_world}
 use Rattle.task_world.specs.FrontsTold.{StopsAtFront}
+use Rattle.region_split.specs.Texts.{TextView}
 use Rattle.tree_core.specs.Histories.{TreeView, NodesStand, state_of}
 use Rattle.tree_model.specs.LegalTrees.{IsLegalTree}
 use Rattle.tree_model.specs.Levels.{Place}
 
-module _ (v : TreeView) (w : ℕ) (a : Place) (s : StoppedTask) (stopped : HasStoppedOut v a s) (none : s.taken ≡ 0) (stand : NodesStand v)
+module _ (text : TextView) (v : TreeView) (w : ℕ) (a : Place) (s : StoppedTask) (stopped : HasStoppedOut text v a s) (none : s.taken ≡ 0) (stand : NodesStand v)
     (lawful : IsLegalTree (state_of v.history)) (law : StopsAreGates) (stop : TaskStop) (is : s.stop ≡ stop) where
   pub stops_at_once : StopsThereFor v.nodes a v.history.job.clauses 0 s.task stop
   stops_at_once =
@@ -28,19 +29,19 @@ module _ (v : TreeView) (w : ℕ) (a : Place) (s : StoppedTask) (stopped : HasSt
   pub gate_there : IsGateOfStop stop w a (state_of v.history)
   gate_there = law v w a s.task stop stand lawful stops_at_once
 
-module _ (v : TreeView) (w : ℕ) (a : Place) (s : StoppedTask) (stopped : HasStoppedOut v a s) (none : s.taken ≡ 0) (stand : NodesStand v)
+module _ (text : TextView) (v : TreeView) (w : ℕ) (a : Place) (s : StoppedTask) (stopped : HasStoppedOut text v a s) (none : s.taken ≡ 0) (stand : NodesStand v)
     (lawful : IsLegalTree (state_of v.history)) (law : StopsAreGates) where
   pub goal_there : (item : FrameItem) (g : GoalPlace) → s.stop ≡ World item g → IsTaskAtWorld w a (state_of v.history)
   goal_there item g is =
-      goal_at_world v w a v.history.job.clauses s.task stand (gate_there v w a s stopped none stand lawful law (World item g) is) item g
-      (stops_in_front v w a s stopped none stand lawful law (World item g) is).stops
+      goal_at_world v w a v.history.job.clauses s.task stand (gate_there text v w a s stopped none stand lawful law (World item g) is) item g
+      (stops_in_front text v w a s stopped none stand lawful law (World item g) is).stops
 
   pub removal_there : (clause : ℕ) → s.stop ≡ Removal clause → IsTaskAtWorld w a (state_of v.history)
   removal_there clause is =
-      removal_at_world v w a v.history.job.clauses s.task stand (gate_there v w a s stopped none stand lawful law (Removal clause) is) clause
-      (stops_in_front v w a s stopped none stand lawful law (Removal clause) is).stops
+      removal_at_world v w a v.history.job.clauses s.task stand (gate_there text v w a s stopped none stand lawful law (Removal clause) is) clause
+      (stops_in_front text v w a s stopped none stand lawful law (Removal clause) is).stops
 
   pub answer_there : s.stop ≡ Answer → IsTaskAtWorld w a (state_of v.history)
   answer_there is =
-      answer_at_world v w a v.history.job.clauses s.task stand (gate_there v w a s stopped none stand lawful law Answer is)
-      (stops_in_front v w a s stopped none stand lawful law Answer is).stops
+      answer_at_world v w a v.history.job.clauses s.task stand (gate_there text v w a s stopped none stand lawful law Answer is)
+      (stops_in_front text v w a s stopped none stand lawful law Answer is).stops

@@ -8,6 +8,7 @@ use Rattle.task_region.specs.TaskViews.{TaskView}
 use Rattle.task_region.specs.declared.running.TaskStop.{TaskStop}
 use Rattle.task_region.specs.declared.running.TaskStop.TheVariants.{Answer}
 use Rattle.task_stops.specs.StopCauses.{StopsThereFor}
+use Rattle.region_split.specs.Texts.{TextView}
 use Rattle.tree_core.specs.Histories.{History, TreeView, state_of}
 use Rattle.tree_model.specs.Levels.{Place}
 use Rattle.scheduler.specs.JobRuns.{IsJobRun}
@@ -17,7 +18,7 @@ use Rattle.scheduler.specs.declared.running.StoppedTask.{StoppedTask}
 use Rattle.scheduler.proofs.RunLemmas.{run_moved}
 
 -- it has stopped at that
-module _ (v : TreeView) (a : Place) (s : StoppedTask) (stopped : HasStoppedOut v a s) (answer : s.stop ≡ Answer) where
+module _ (text : TextView) (v : TreeView) (a : Place) (s : StoppedTask) (stopped : HasStoppedOut text v a s) (answer : s.stop ≡ Answer) where
   pub at_answer : HasStoppedAtAnswer v a s.taken s.task
   at_answer = record {
     stops = subst (StopsThereFor v.nodes a v.history.job.clauses s.taken s.task) answer stopped.stops;

@@ -12,3 +12,4 @@ mod PieceLemmas
 mod TurnLemmas
 mod EndingLemmas
 mod OpeningLemmas
+pub mod KeptLemmas

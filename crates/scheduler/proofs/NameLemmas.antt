@@ -1,11 +1,11 @@
 -- The names of an alternative's query, by how many were opened on the way up from it.
-use Rattle.std.proofs.Common.{◌≡◌, ℕ, zero, suc, ◌+◌, ◌<◌, true, List, [], ◌∷◌, map, drop, length, get_or, slice_index_or, add-one, Option, Some, None, refl, sym, ap, ◌∙◌, subst, arith}
+use Rattle.std.proofs.Common.{◌≡◌, ℕ, suc, ◌+◌, ◌<◌, true, List, [], ◌∷◌, map, drop, length, get_or, add-one, Option, Some, None, refl, sym, ap, ◌∙◌, subst, arith}
 use Rattle.std.proofs.Math.Seq.{drop-cons}
 use Rattle.std.specs.Option.{option_map}
 use Rattle.std.specs.Prelude.{IsSome, is_some, slice_get}
 use Rattle.au_model.specs.Terms.Named.{variable_meant}
 use Rattle.au_model.specs.declared.types.VarName.{VarName}
-use Rattle.task_region.specs.PlacesUp.{AreAllUp, AreAtNodes, LeadsUp, PlacesAreLevels, body_at, branching_at, missing_body}
+use Rattle.task_region.specs.PlacesUp.{AreAllUp, PlacesAreLevels, body_at, branching_at, missing_body}
 use Rattle.branch_reading.specs.Readings.{named_of, own_query, queries_on, query_count, query_on, reading}
 use Rattle.task_region.proofs.AtPlaceLemmas.{row_there}
 use Rattle.branch_shapes.proofs.OutLemmas.{out_at, spot_out}

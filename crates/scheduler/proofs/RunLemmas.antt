@@ -1,10 +1,9 @@
 -- What a job is run with stays that of the tree.
-use Rattle.std.proofs.Common.{◌≡◌, ◌≤◌, inl, inr, ℕ, List, length, drop, refl, sym, ap, ◌∙◌, subst}
-use Rattle.std.specs.Prelude.{◌||◌, OnErr, OnOk, Result, Ok, Err}
-use Rattle.effect_gate.specs.Effects.{statics_of, world_meant}
+use Rattle.std.proofs.Common.{◌≡◌, ◌≤◌, inl, inr, ℕ, length, drop, refl, sym, ap, ◌∙◌, subst}
+use Rattle.std.specs.Prelude.{OnErr, OnOk, Result, Ok, Err}
+use Rattle.effect_gate.specs.Effects.{world_meant}
 use Rattle.effect_gate.specs.declared.world.World.{World as KeptWorld}
-use Rattle.dyn_clauses.specs.DatabaseView.{is_static}
-use Rattle.run_model.specs.Goals.Worlds.{is_reserved, static_among}
+use Rattle.run_model.specs.Goals.Worlds.{static_among}
 use Rattle.scheduler.specs.GivenBack.{IsGivenBack, IsGivenBackAlone, IsGivenBackOnce, IsSameJob}
 use Rattle.scheduler.specs.JobRuns.{EventsLeaveRuns, IsJobRun}
 use Rattle.scheduler.specs.declared.job_run.JobRun.{JobRun}

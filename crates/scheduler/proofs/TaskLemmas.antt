@@ -1,6 +1,9 @@
 -- A task that was loaded and run has stopped, short of a ball.
 use Rattle.std.proofs.Common.{◌≡◌, ◌≢◌, ◌≤◌, ◌<◌, ◌+◌, ◌-◌, ℕ, suc, Bool, true, false, cond, List, Option, refl, sym, ap, ◌∙◌, subst, arith}
+use Rattle.std.proofs.Common.{Vec}
+use Rattle.std.specs.Global.{Global}
 use Rattle.std.specs.Prelude.{IsSome}
+use Rattle.task_region.specs.KeptRegions.{IsOnWay, TasksStayOnWays}
 use Rattle.au_term.proofs.LogicLemmas.{false_true}
 use Rattle.task_region.specs.TaskLoads.{LoadsTask}
 use Rattle.region_split.specs.Texts.{TextView}
@@ -43,42 +46,44 @@ limit_goes_on (Ball ball) next h at_limit = absurd at_limit
 limit_goes_on Empty next h at_limit = absurd at_limit
 
 module _ (v : TreeView) (a : Place) (text : TextView) (old new : TaskView) (limit : ℕ) (ran : TaskRan) (clauses : text.clauses ≡ v.history.job.clauses)
-    (loads : LoadsTask v.nodes a text old) (runs : RunsTask old new limit ran) where
-  pub has_stopped : LoadedTasksStopFor → LoadedTasksStopAtFront → TasksStayOnBranches
-      → HasStoppedOut v a (record { task = new; taken = ran.taken; stop = ran.stop })
-  has_stopped stops front stay = record {
+    (loads : LoadsTask v.nodes a text old) (numbers : Vec ℕ Global) (way : IsOnWay v.nodes.rows a text numbers.items old) (runs : RunsTask old new limit ran) where
+  pub has_stopped : LoadedTasksStopFor → LoadedTasksStopAtFront → TasksStayOnBranches → TasksStayOnWays
+      → HasStoppedOut text v a (record { task = new; taken = ran.taken; stop = ran.stop; numbers = numbers })
+  has_stopped stops front stay ways = record {
     stops = subst (λ (cs : List Clause). StopsThereFor v.nodes a cs ran.taken new ran.stop) clauses (stops v.nodes a text old new limit ran loads runs);
     front = λ none. subst (λ (cs : List Clause). StopsAtFront v.nodes a cs new ran.stop) clauses (front v.nodes a text old new limit ran loads runs none);
     start = stay v.nodes a old new limit ran loads.start runs;
-    text = ap (λ (r : TextView). r.clauses) (runs.same.text ∙ loads.text_is) ∙ clauses;
+    way = ways v.nodes.rows a text numbers.items old new limit ran way runs;
+    clauses_are = ap (λ (r : TextView). r.clauses) (runs.same.text ∙ loads.text_is) ∙ clauses;
     going = runs.next;
     next = runs.next_for;
   }
 
-  pub runs_under : LoadedTasksStopFor → LoadedTasksStopAtFront → TasksStayOnBranches → (names : List (List ℕ)) (most : ℕ) → names ≡ text.code.names
-      → 1 ≤ limit → limit ≤ most → RunsUnder v a names most (record { task = new; taken = ran.taken; stop = ran.stop })
-  runs_under stops front stay names most of_text some le = record {
-    stopped = has_stopped stops front stay;
+  pub runs_under : LoadedTasksStopFor → LoadedTasksStopAtFront → TasksStayOnBranches → TasksStayOnWays → (names : List (List ℕ)) (most : ℕ) → names ≡ text.code.names
+      → 1 ≤ limit → limit ≤ most → RunsUnder text v a names most (record { task = new; taken = ran.taken; stop = ran.stop; numbers = numbers })
+  runs_under stops front stay ways names most of_text some le = record {
+    stopped = has_stopped stops front stay ways;
     names_are = of_text ∙ sym (ap (λ (r : TextView). r.code.names) (runs.same.text ∙ loads.text_is));
     some = λ u. let all = runs.all u in omega (arith, all, some);
     under = λ u. let under = runs.under u in omega (arith, under, le);
   }
 
 -- a task that was stopped by a limit is run on
-module _ (v : TreeView) (a : Place) (names : List (List ℕ)) (limit : ℕ) (s : StoppedTask) (h : RunsUnder v a names limit s) (at_limit : IsLimit s.stop)
+module _ (text : TextView) (v : TreeView) (a : Place) (names : List (List ℕ)) (limit : ℕ) (s : StoppedTask) (h : RunsUnder text v a names limit s) (at_limit : IsLimit s.stop)
     (most : ℕ) (some : 1 ≤ most) (fits : s.taken + most ≤ limit) (new : TaskView) (ran : TaskRan) (runs : RunsTask s.task new most ran) where
   same_clauses : new.region.text.clauses ≡ v.history.job.clauses
-  same_clauses = ap (λ (r : TextView). r.clauses) runs.same.text ∙ h.stopped.text
+  same_clauses = ap (λ (r : TextView). r.clauses) runs.same.text ∙ h.stopped.clauses_are
 
-  pub slice_under : StoppedTasksRunOnFor → CausesAreStops → TasksStayOnBranches
-      → RunsUnder v a names limit (record { task = new; taken = s.taken + ran.taken; stop = ran.stop })
-  slice_under on stops stay = record {
+  pub slice_under : StoppedTasksRunOnFor → CausesAreStops → TasksStayOnBranches → TasksStayOnWays
+      → RunsUnder text v a names limit (record { task = new; taken = s.taken + ran.taken; stop = ran.stop; numbers = s.numbers })
+  slice_under on stops stay ways = record {
     stopped = record {
       stops = on v.nodes a v.history.job.clauses s.taken s.task new most ran (limit_goes_on s.stop s.task.next h.stopped.going at_limit)
           (stops v.nodes a v.history.job.clauses s.taken s.task s.stop h.stopped.stops) runs;
       front = λ none. absurd (let one = h.some at_limit in omega (arith, one, none));
       start = stay v.nodes a s.task new most ran h.stopped.start runs;
-      text = same_clauses;
+      way = ways v.nodes.rows a text s.numbers.items s.task new most ran h.stopped.way runs;
+      clauses_are = same_clauses;
       going = runs.next;
       next = runs.next_for;
     };
@@ -87,7 +92,7 @@ module _ (v : TreeView) (a : Place) (names : List (List ℕ)) (limit : ℕ) (s :
     under = λ u. let under = runs.under u in omega (arith, under, fits);
   }
 
-  pub slice_further : RunsFurther s.taken limit (record { task = new; taken = s.taken + ran.taken; stop = ran.stop })
+  pub slice_further : RunsFurther s.taken limit (record { task = new; taken = s.taken + ran.taken; stop = ran.stop; numbers = s.numbers })
   slice_further = record {
     later = λ e. let all = runs.all (limit_is ran.stop e) in omega (arith, all, some);
     within = let within = runs.within in omega (arith, within, fits);
@@ -122,14 +127,19 @@ under_limit (Collect number) k limit h some = absurd (some refl)
 under_limit (Ball ball) k limit h some = h tt
 under_limit Empty k limit h some = absurd (some refl)
 
-module _ (v : TreeView) (w : ℕ) (a : Place) (limit : ℕ) where
-  pub shorter : (out : OutStop) → RunsOut v w a limit out → run_before_ball out ≢ 0 → run_before_ball out < limit
+module _ (text : TextView) (v : TreeView) (w : ℕ) (a : Place) (limit : ℕ) where
+  pub shorter : (out : OutStop) → RunsOut text v w a limit out → run_before_ball out ≢ 0 → run_before_ball out < limit
   shorter (Ends ball) h some = absurd (some refl)
   shorter (Stops s) h some = under_limit s.stop s.taken limit h.2 some
 
-  pub can_be_served : (out : OutStop) → RunsOut v w a limit out → run_before_ball out ≡ 0 → CanBeServed v w a out
+  pub can_be_served : (out : OutStop) → RunsOut text v w a limit out → run_before_ball out ≡ 0 → CanBeServed text v w a out
   can_be_served (Ends ball) h none = h
   can_be_served (Stops s) h none = (h.0, h.1, λ b. sym (at_ball s.stop s.taken b) ∙ none)
+
+-- within some limit
+pub record RunsSome (text : TextView) (v : TreeView) (w : ℕ) (a : Place) (out : OutStop) : Type 0 where
+  pub limit : ℕ
+  pub runs : RunsOut text v w a limit out
 
 -- where it goes on
 pub goes_on : (stop : TaskStop) (next : Option Position) → LeavesNext stop next → (IsBall stop → ⊥) → (stop ≡ Empty → ⊥) → IsSome next

@@ -7,3 +7,4 @@ pub mod QueriesLeft
 pub mod Driving
 pub mod Endings
 pub mod Pieces
+pub mod KeptFor

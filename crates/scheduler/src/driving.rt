@@ -70,13 +70,15 @@ fn drive_on<J: JobBrand, K: Sink>(
 {
     only_stops_stop();
     let mut put = 0;
+    let mut kept = None;
     for _turn in 0..u64::MAX {
         if let Some(end) = end_of(tree, budget) {
             return close(&run.world.out, put, end, out);
         }
-        let Ok(()) = turn(tree, run, alloc, budget) else {
-            return cut_short(RunEnding::NoMemory);
-        };
+        match turn(tree, run, alloc, budget, kept) {
+            Ok(left) => kept = left,
+            Err(_) => return cut_short(RunEnding::NoMemory),
+        }
         // The proof reads off that what was written is a front of the job's text.
         tree.keeps_promises();
         match put_on(&run.world.out, put, PIECE, out) {

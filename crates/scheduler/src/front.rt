@@ -3,6 +3,7 @@ ghost use Rattle.std.specs.Prelude.{◌≡◌, true, is_some, OnErr, OnOk};
 ghost use Rattle.tree_model.specs.EventViews.{place_view};
 ghost use Rattle.tree_model.specs.Legality.{taken_at};
 ghost use Rattle.tree_model.specs.Nodes.{WorldGate};
+ghost use Rattle.tree_nodes.specs.Staying.{StayMade};
 ghost use Rattle.public_tree.specs.PublicTrees.{IsItsGate, is_going};
 ghost use Rattle.tree_core.specs.Histories.{state_of, with_event};
 ghost use Rattle.task_world.specs.FrontSteps.{MayClose, front_event};
@@ -30,6 +31,7 @@ pub(crate) fn end_step<J: JobBrand>(
 ) -> Result<(), NoMemory>
     requires step { IsStepOpen tree.old worker (place_view at) step }
     ensures ends { OnOk result (EndsStep tree.old tree.new worker (place_view at) step) }
+    ensures made { StayMade tree.old.nodes.rows tree.new.nodes.rows }
     ensures err { OnErr result (FailsStep tree.old tree.new step) }
 {
     match step {
@@ -55,6 +57,7 @@ fn close_front<J: JobBrand>(
     requires out { is_some (taken_at worker (place_view at) (state_of tree.old.history)) ≡ true }
     requires may { MayClose tree.old worker (place_view at) closing }
     ensures closes { OnOk result (tree.new.history ≡ with_event (front_event worker (place_view at)) tree.old.history) }
+    ensures made { StayMade tree.old.nodes.rows tree.new.nodes.rows }
     ensures err { OnErr result (tree.new.history ≡ tree.old.history) }
 {
     waking_closings_are_no_catch();

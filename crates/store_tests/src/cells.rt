@@ -241,6 +241,7 @@ enum Step {
     Unify([Side; 2], [Side; 2]),
     UndoTo(usize),
     KeepMarks(usize),
+    RaiseFloor,
     Expect(u32, Side),
 }
 
@@ -290,6 +291,10 @@ fn run(rt: &impl Abort, alloc: Global, store: &mut Store, step: &Step) -> Result
             store.keep_marks(*count);
             Ok(true)
         }
+        Step::RaiseFloor => {
+            store.raise_floor()?;
+            Ok(true)
+        }
         Step::Expect(number, value) => Ok(stands_for(rt, alloc, store, *number, *value)?),
     }
 }
@@ -313,8 +318,26 @@ const STEPS: [Step; 15] = [
     Step::Expect(3, (false, 3)),
 ];
 
-fn run_all(rt: &impl Abort, alloc: Global, store: &mut Store) -> Result<(), Fail> {
-    for step in &STEPS {
+/// What is bound and marked where the floor is raised stays, whichever of the older marks is gone back to.
+const RAISED: [Step; 14] = [
+    Step::Mark,
+    Step::Unify([(false, 0), (false, 0)], [(true, 1), (true, 1)]),
+    Step::Mark,
+    Step::Fresh,
+    Step::RaiseFloor,
+    Step::Mark,
+    Step::Unify([(false, 1), (false, 4)], [(false, 2), (false, 5)]),
+    Step::UndoTo(2),
+    Step::Expect(0, (true, 1)),
+    Step::Expect(4, (false, 4)),
+    Step::UndoTo(0),
+    Step::Expect(0, (true, 1)),
+    Step::Expect(5, (false, 5)),
+    Step::KeepMarks(0),
+];
+
+fn run_all(rt: &impl Abort, alloc: Global, store: &mut Store, steps: &[Step]) -> Result<(), Fail> {
+    for step in steps {
         expect(rt, run(rt, alloc, store, step)?, true);
     }
     Ok(())
@@ -323,7 +346,13 @@ fn run_all(rt: &impl Abort, alloc: Global, store: &mut Store) -> Result<(), Fail
 #[test]
 fn marks(rt: HostRuntime) -> Result<(), Fail> {
     let mut store = store(rt.alloc())?;
-    run_all(&rt, rt.alloc(), &mut store)
+    run_all(&rt, rt.alloc(), &mut store, &STEPS)
+}
+
+#[test]
+fn raised_floors(rt: HostRuntime) -> Result<(), Fail> {
+    let mut store = store(rt.alloc())?;
+    run_all(&rt, rt.alloc(), &mut store, &RAISED)
 }
 
 fn made_since(

@@ -1,6 +1,6 @@
 -- Bodies that are made of what was taken off a task's region.
-use Rattle.std.proofs.Common.{◌≡◌, ℕ, zero, suc, ◌+◌, ◌-◌, ◌<◌, ◌≤◌, true, IfOk, Result, Ok, Err, get_or, List, [], ◌∷◌, ◌++◌, length, map, reverse, slice_get, Option, Some, None, refl, sym, ap, ◌∙◌, subst, arith}
-use Rattle.std.specs.Prelude.{is_some}
+use Rattle.std.proofs.Common.{◌≡◌, ℕ, zero, suc, ◌+◌, ◌-◌, ◌<◌, ◌≤◌, true, IfOk, Result, Ok, Err, get_or, List, [], ◌∷◌, ◌++◌, length, map, reverse, slice_get, take, Option, Some, None, refl, sym, ap, ◌∙◌, subst, arith}
+use Rattle.std.specs.Prelude.{is_some, IsSomeAnd}
 use Rattle.std.specs.Option.{option_map}
 use Rattle.std.specs.List.{list_all}
 use Rattle.au_term.proofs.LogicLemmas.{both, false_true}
@@ -19,7 +19,8 @@ use Rattle.clause_compile.specs.declared.event.Branch.{Branch}
 use Rattle.clause_compile.specs.declared.item.Item.{Item as BranchItem}
 use Rattle.cell_store.specs.StoreView.{Moment}
 use Rattle.region_split.specs.ClauseTrials.{entries_at}
-use Rattle.region_split.specs.QueryEnds.{AreEndsAtFloor, AreEndsOldest}
+use Rattle.region_split.specs.QueryEnds.{IsEnd, AreEndsAtFloor, AreEndsOldest}
+use Rattle.region_split.specs.declared.choice.ChoicePoint.{ChoicePoint}
 use Rattle.region_split.specs.Regions.{RegionView, entries_of}
 use Rattle.region_split.specs.declared.frame.Position.{Position}
 use Rattle.task_region.specs.TaskViews.{TaskView, carried, position_stack, task_stack}
@@ -32,7 +33,7 @@ use Rattle.branch_reading.specs.BranchSegments.{above_in_query, own_segments, bi
 use Rattle.branch_reading.specs.Readings.{items_meant, named_of, query_on}
 use Rattle.branch_reading.specs.SettledWays.{branch_items, is_item_settled, is_term_below, items_on, is_way_settled}
 use Rattle.branch_bindings.specs.ExtensionLaws.{UnifiersStandForOlder, UnifiersAreFinal}
-use Rattle.task_region.specs.PlacesUp.{AreAllUp, PlacesAreLevels}
+use Rattle.task_region.specs.PlacesUp.{AreAllUp, AreNumbersUp, PlacesAreLevels}
 use Rattle.branch_shapes.specs.FloorItems.{items_over_floor}
 use Rattle.task_publishing.specs.LiveChoices.{IsBoundAtStart}
 use Rattle.task_publishing.specs.PublishedRuns.{IsDeferredAt, MeanPublished, published_entry}
@@ -41,7 +42,7 @@ use Rattle.region_capture.specs.declared.captured.Captured.{Captured}
 use Rattle.region_capture.specs.declared.captured.CapturedKind.TheVariants.{Choice}
 use Rattle.task_publishing.specs.OwnEntries.{IsOverEnds, placement_of, StandsForOwn, AreTakenOff, OwnEntriesAreTaken, OwnEntriesAreOverFloor}
 use Rattle.task_region.specs.TaskLoads.{IsBoundOnBranch}
-use Rattle.task_publishing.specs.OwnBodies.{HasOwn, HasSomeOwn, IsTakenOffTask, IsBranchAt, CanBePublished, MeanOwn, MeanFromStart, MeanTask, AreNumbersUp}
+use Rattle.task_publishing.specs.OwnBodies.{HasOwn, HasSomeOwn, IsTakenOffTask, IsBranchAt, CanBePublished, MeanOwn, MeanFromStart, MeanTask, LeavesBodies}
 use Rattle.task_publishing.proofs.NodesDownLemmas.{numbers, nodes_down}
 
 -- a term is below a number
@@ -71,6 +72,13 @@ got : {X : Type 0} (xs : List X) (n : ℕ) → n < length xs → (x : X) × (sli
 got [] n lt = absurd (omega (arith, lt))
 got (x ∷ xs) zero lt = (x, refl)
 got (x ∷ xs) (suc n) lt = got xs n (omega (arith, lt))
+
+-- the first ones of a list stay in their places
+taken_at : {X : Type 0} (xs : List X) (n k : ℕ) → k < n → slice_get (take n xs) k ≡ slice_get xs k
+taken_at xs zero k lt = absurd (omega (arith, lt))
+taken_at [] (suc n) k lt = refl
+taken_at (x ∷ xs) (suc n) zero lt = refl
+taken_at (x ∷ xs) (suc n) (suc k) lt = taken_at xs n k (omega (arith, lt))
 
 -- where a task goes on, its region stands for what it stands for
 stands_there : (t : TaskView) (p : Position) (levels : List Level) (named : List NamedTerm) (items : List BranchItem) (own : List Entry) → HasOwn levels named items t own
@@ -103,17 +111,33 @@ module _ (t : TaskView) (r : RegionView) (floor : ℕ) (p : Position) (law : Own
   pub floor_there : IsCaptureFloor floor r
   floor_there = subst (λ n. IsCaptureFloor n r) (sym floor_is) (subst (IsCaptureFloor t.floor) (sym same) own_floor.floor_is)
 
-  pub is_off : (new : RegionView) (c : Captured) → CapturesRegion r new floor p c → IsTakenOffTask t c
-  is_off new c k = record {
-    position = p;
-    next = next;
-    left = new;
-    captures = subst (λ n. CapturesRegion t.region new n p c) floor_is (subst (λ (x : RegionView). CapturesRegion x new floor p c) same k);
-    floor = own_floor;
-    ends = ends_there;
-    at_floor = floors_there;
-    marks = marks_there;
-  }
+  -- the newest end that is left came at the floor, before and after
+  same_floor : (new : RegionView) (c : Captured) → CapturesRegion t.region new t.floor p c
+      → AreEndsAtFloor new.store.floor new.choices new.store.marks → new.store.floor ≡ t.region.store.floor
+  same_floor new c k floors_left =
+      let some = own_floor.floor_is.some in
+      let lt : t.floor - 1 < t.floor = omega (arith, some) in
+      let end = subst (λ o. IsSomeAnd o (λ (x : ChoicePoint). IsEnd x.alternatives))
+      (sym (ap (λ (xs : List ChoicePoint). slice_get xs (t.floor - 1)) k.left ∙ taken_at t.region.choices t.floor (t.floor - 1) lt)) own_floor.newest in
+      let mark = ap (λ (xs : List Moment). slice_get xs (t.floor - 1)) k.left_marks
+      ∙ (taken_at t.region.store.marks t.floor (t.floor - 1) lt ∙ k.marked) in
+      sym (floors_left (t.floor - 1) k.start end mark) ∙ floors_there (t.floor - 1) k.start own_floor.newest k.marked
+
+  pub is_off : (new : RegionView) (c : Captured) → CapturesRegion r new floor p c → AreEndsAtFloor new.store.floor new.choices new.store.marks
+      → IsTakenOffTask t new c
+  is_off new c k floors_left =
+      let captures : CapturesRegion t.region new t.floor p c
+      = subst (λ n. CapturesRegion t.region new n p c) floor_is (subst (λ (x : RegionView). CapturesRegion x new floor p c) same k) in
+      record {
+        position = p;
+        next = next;
+        captures = captures;
+        floor = own_floor;
+        ends = ends_there;
+        at_floor = floors_there;
+        marks = marks_there;
+        same_floor = same_floor new c captures floors_left;
+      }
 
 -- an alternative that is there has a branch
 pub within : {X : Type 0} (xs : List X) (i : ℕ) → is_some (slice_get xs i) ≡ true → i < length xs
@@ -132,8 +156,8 @@ carried_below next levels (Remove id ∷ items) h = (omega arith, carried_below 
 carried_below next levels (End ball ∷ items) h = false_true h
 
 -- a task's region goes on at a position
-module _ (nodes : NodesView) (a : Place) (t : TaskView) (c : Captured) (bodies : List Body) (branch : List ℕ) (goals : List BranchItem) (base : ℕ)
-    (law : OwnEntriesAreTaken) (older : UnifiersStandForOlder) (last : UnifiersAreFinal) (placed : PlacesAreLevels) (off : IsTakenOffTask t c)
+module _ (nodes : NodesView) (a : Place) (t : TaskView) (left : RegionView) (c : Captured) (bodies : List Body) (branch : List ℕ) (goals : List BranchItem) (base : ℕ)
+    (law : OwnEntriesAreTaken) (older : UnifiersStandForOlder) (last : UnifiersAreFinal) (placed : PlacesAreLevels) (off : IsTakenOffTask t left c)
     (made : MeanPublished c goals base branch (length nodes.rows) bodies)
     (up : AreNumbersUp nodes.rows a branch) (there : IsBranchAt nodes.rows a goals base) where
   module _ (job : Job) (read : Reading) (v : Level) (above : List Level) (was : Status) (way : Branching) (own : List Entry) (at : place_at v ≡ a)
@@ -178,9 +202,9 @@ module _ (nodes : NodesView) (a : Place) (t : TaskView) (c : Captured) (bodies :
 
     taken : IsBoundOnBranch way start.0 → AreTakenOff levels (length nodes.rows) named items (bound_at start.0) c own
     taken bound =
-        law levels (length nodes.rows) named items t.region off.left off.position own c start.0
+        law levels (length nodes.rows) named items t.region left off.position own c start.0
         (stands_there t off.position levels named items own has off.next off.ends off.marks) can.scoped
-        (subst (λ n. CapturesRegion t.region off.left n off.position c) (sym has.floor) off.captures)
+        (subst (λ n. CapturesRegion t.region left n off.position c) (sym has.floor) off.captures)
         (ap (λ n. slice_get t.region.store.marks (n - 1)) has.floor ∙ start.1) (below bound)
 
     made_here : MeanPublished c items (next_number (segments_on way)) (numbers levels) (length nodes.rows) bodies
@@ -210,8 +234,11 @@ module _ (nodes : NodesView) (a : Place) (t : TaskView) (c : Captured) (bodies :
         let same : start.0 ≡ t.region.store.floor = off.at_floor (t.floor - 1) start.0 off.floor.newest start.1 in
         subst (λ (m : Moment). MeanOwn job (length nodes.rows) levels way m.bound bodies own) same (mean_own (subst (IsBoundOnBranch way) (sym same) bound))
 
-  pub bodies_mean : MeanTask nodes a t bodies
+  bodies_mean : MeanTask nodes a t bodies
   bodies_mean job read v above was way own at table on can has = means_from_start job read v above was way own at table on can has
+
+  pub leaves_bodies : LeavesBodies nodes a t bodies left
+  leaves_bodies = record { mean = bodies_mean; floor = off.same_floor; text = off.captures.text }
 
 pub branch_at : (nodes : NodesView) (a : Place) (body : Body) (branch : Branch) (goals : List BranchItem) (base : ℕ)
     → option_map (λ (r : StoredNode). r.body) (row_of_node nodes.rows a.node) ≡ Some body → slice_get body.branches a.index ≡ Some branch → goals ≡ branch.goals

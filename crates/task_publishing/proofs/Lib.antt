@@ -21,3 +21,4 @@ pub mod SpotLemmas
 mod TaskRunLemmas
 pub mod TaskLemmas
 pub mod JobLemmas
+pub mod KeptLemmas

@@ -1,5 +1,5 @@
 -- The nodes to which cuts are, by how many choice points they keep, as a table.
-use Rattle.std.specs.Prelude.{◌≡◌, ℕ, suc, ◌+◌, ◌-◌, ◌<◌, nat_lt, cond, List, [], ◌∷◌, length, get_or}
+use Rattle.std.specs.Prelude.{◌≡◌, ℕ, suc, ◌+◌, ◌-◌, ◌<◌, nat_lt, cond, List, [], ◌∷◌, ◌++◌, length, get_or}
 use Rattle.tree_model.specs.Floors.{node_of}
 use Rattle.tree_model.specs.Levels.{Level}
 use Rattle.region_capture.specs.declared.captured.CapturedChoice.{CapturedChoice}
@@ -18,9 +18,16 @@ AreGroupsOf [] (g ∷ gs) = ⊥
 AreGroupsOf (c ∷ choices) [] = ⊥
 AreGroupsOf (c ∷ choices) (g ∷ gs) = (length c.alternatives.items ≡ length g) × AreGroupsOf choices gs
 
+-- that of no choice point, those of a branch's nodes and those of own choice points
+abbrev pub all_scopes : List ℕ → List ℕ → List ℕ
+all_scopes branch own = 0 ∷ branch ++ own
+
+abbrev pub last_of : List ℕ → ℕ
+last_of scopes = get_or scopes (length scopes - 1) 0
+
 -- what a table has for a number of choice points: past the last one it is the same
 abbrev pub scope_at : List ℕ → ℕ → ℕ
-scope_at scopes n = cond (nat_lt n (length scopes)) (get_or scopes n 0) (get_or scopes (length scopes - 1) 0)
+scope_at scopes n = cond (nat_lt n (length scopes)) (get_or scopes n 0) (last_of scopes)
 
 -- the node for each number of choice points
 pub record AreScopes (next : ℕ) (levels : List Level) (gs : Groups) (scopes : List ℕ) : Type 0 where

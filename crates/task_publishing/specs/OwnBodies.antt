@@ -1,5 +1,5 @@
 -- Bodies of nodes for the own entries that a task's region has left.
-use Rattle.std.specs.Prelude.{◌≡◌, ℕ, ◌+◌, ◌≤◌, true, List, ◌∷◌, length, map, reverse, slice_get, Some}
+use Rattle.std.specs.Prelude.{◌≡◌, ℕ, ◌+◌, ◌≤◌, true, List, ◌∷◌, length, map, slice_get, Some}
 use Rattle.au_model.specs.Terms.Each.{Each}
 use Rattle.au_model.specs.Terms.Named.{NamedTerm}
 use Rattle.au_model.specs.Terms.Substitutions.{Substitution}
@@ -21,7 +21,6 @@ use Rattle.tree_nodes.specs.TreeTables.{NodesView, IsTableOf, IsWayTo}
 use Rattle.branch_reading.specs.BranchSegments.{segments_on, next_number}
 use Rattle.branch_reading.specs.Readings.{items_meant, named_of, query_on}
 use Rattle.branch_reading.specs.SettledWays.{items_on, is_way_settled}
-use Rattle.task_region.specs.PlacesUp.{AreAllUp}
 use Rattle.task_region.specs.TaskLoads.{IsBoundOnBranch}
 use Rattle.branch_shapes.specs.FloorItems.{NamesLevels, items_over_floor}
 use Rattle.branch_shapes.specs.Groups.{Groups, stacked}
@@ -47,16 +46,16 @@ pub record HasSomeOwn (t : TaskView) : Type 0 where
   pub own : List Entry
   pub has : HasOwn levels named items t own
 
--- its region was taken off above its floor
-pub record IsTakenOffTask (t : TaskView) (c : Captured) : Type 0 where
+-- its region was taken off above its floor, where the region that is left has the same one
+pub record IsTakenOffTask (t : TaskView) (left : RegionView) (c : Captured) : Type 0 where
   pub position : Position
   pub next : t.next ≡ Some position
-  pub left : RegionView
   pub captures : CapturesRegion t.region left t.floor position c
   pub floor : IsOverEnds t.floor t.region
   pub ends : AreEndsOldest t.region.choices
   pub at_floor : AreEndsAtFloor t.region.store.floor t.region.choices t.region.store.marks
   pub marks : length t.region.store.marks ≡ length t.region.choices
+  pub same_floor : left.store.floor ≡ t.region.store.floor
 
 -- the branch of an alternative is settled, its items name nodes of it, and its query's named variables are below its next number, as in
 -- the tree of every legal history
@@ -94,8 +93,8 @@ MeanTask nodes a t bodies =
     → HasOwn (v ∷ up) (named_of (query_on job way)) (items_on way) t own
     → MeanFromStart job (length nodes.rows) (v ∷ up) way t bodies own
 
--- the numbers of the nodes on the way up from a place, the outermost first
-pub record AreNumbersUp (rows : Rows) (a : Place) (branch : List ℕ) : Type 0 where
-  pub places : List Place
-  pub up : AreAllUp rows a places
-  pub are : branch ≡ reverse (map (λ (p : Place). p.node) places)
+-- bodies mean what the task of an alternative has left, and of its region that is left which can be taken back to where it began
+pub record LeavesBodies (nodes : NodesView) (a : Place) (t : TaskView) (bodies : List Body) (left : RegionView) : Type 0 where
+  pub mean : MeanTask nodes a t bodies
+  pub floor : left.store.floor ≡ t.region.store.floor
+  pub text : left.text ≡ t.region.text

@@ -1,7 +1,7 @@
 //! Goals of branches, made of items that were taken off a region.
 ghost use Rattle.std.specs.Prelude.{◌≡◌, ℕ, ◌<◌, IfOk, length, drop};
 ghost use Rattle.region_capture.specs.CapturedItems.{HasItems, captured_item};
-ghost use Rattle.task_publishing.specs.KeptScopes.{scope_at};
+ghost use Rattle.task_publishing.specs.KeptScopes.{all_scopes, scope_at};
 ghost use Rattle.task_publishing.specs.BranchGoals.{AreTailsOf, AreGoalsOf, branch_item, branch_goals};
 
 use crate::scopes::scope_of;
@@ -38,16 +38,16 @@ fn tail(tails: &[Goals], from: u64) -> Result<Goals, NoMemory>
 pub(crate) fn goals_by_number(
     alloc: Global,
     items: &CapturedItems,
-    scopes: &[u64],
+    branch: &[u64],
+    own: &[u64],
     tails: &[Goals],
 ) -> Result<Vec<Goals>, NoMemory>
-    requires { 0 < length scopes.now }
     ensures all { IfOk result (λ goals. length goals.items ≡ length items.now) }
-    ensures goals { IfOk result (λ goals. (deferred : _) → AreTailsOf deferred tails.now → AreGoalsOf items.now (scope_at scopes.now) deferred goals.items) }
+    ensures goals { IfOk result (λ goals. (deferred : _) → AreTailsOf deferred tails.now → AreGoalsOf items.now (scope_at (all_scopes branch.now own.now)) deferred goals.items) }
 {
     let mut goals = Vec::new(alloc);
     for number in 0..items.numbers() {
-        let made = goals_of(alloc, items, number, scopes, tails, &goals)?;
+        let made = goals_of(alloc, items, number, branch, own, tails, &goals)?;
         goals.push(made)?;
     }
     Ok(goals)
@@ -58,15 +58,15 @@ fn goals_of(
     alloc: Global,
     items: &CapturedItems,
     number: usize,
-    scopes: &[u64],
+    branch: &[u64],
+    own: &[u64],
     tails: &[Goals],
     made: &[Goals],
 ) -> Result<Goals, NoMemory>
-    requires some { 0 < length scopes.now }
     requires within { number < length items.now }
     requires made { length made.now ≡ number }
-    ensures { IfOk result (λ goals. (deferred : _) (own : _) → AreTailsOf deferred tails.now → AreGoalsOf items.now (scope_at scopes.now) deferred made.now
-        → HasItems items.now number own → goals ≡ branch_goals (scope_at scopes.now) deferred own) }
+    ensures { IfOk result (λ goals. (deferred : _) (left : _) → AreTailsOf deferred tails.now → AreGoalsOf items.now (scope_at (all_scopes branch.now own.now)) deferred made.now
+        → HasItems items.now number left → goals ≡ branch_goals (scope_at (all_scopes branch.now own.now)) deferred left) }
 {
     let Ok(place) = u32::try_from(number) else {
         return Err(NoMemory);
@@ -75,27 +75,26 @@ fn goals_of(
         None => Ok(Goals::empty()),
         Some((CapturedItem::Removal(from), _)) => tail(tails, *from),
         Some((item, after)) => {
-            let made_item = item_of(item, scopes)?;
+            let made_item = item_of(item, branch, own)?;
             made[after as usize].push(alloc, made_item)
         }
     }
 }
 
-fn item_of(item: &CapturedItem, scopes: &[u64]) -> Result<Item, NoMemory>
-    requires { 0 < length scopes.now }
-    ensures { IfOk result (λ made. made ≡ branch_item (scope_at scopes.now) (captured_item item.now)) }
+fn item_of(item: &CapturedItem, branch: &[u64], own: &[u64]) -> Result<Item, NoMemory>
+    ensures { IfOk result (λ made. made ≡ branch_item (scope_at (all_scopes branch.now own.now)) (captured_item item.now)) }
 {
     Ok(match item {
         CapturedItem::Goal { term, cut } => Item::Goal {
             term: term.share()?,
-            cut: Scope::Node(scope_of(scopes, *cut as usize)),
+            cut: Scope::Node(scope_of(branch, own, *cut as usize)),
         },
         CapturedItem::CatchEnd(over) => {
-            Item::CatchEnd(Scope::Node(scope_of(scopes, *over as usize + 1)))
+            Item::CatchEnd(Scope::Node(scope_of(branch, own, *over as usize + 1)))
         }
         CapturedItem::Collect { template, over } => Item::Collect {
             template: template.share()?,
-            scope: Scope::Node(scope_of(scopes, *over as usize + 1)),
+            scope: Scope::Node(scope_of(branch, own, *over as usize + 1)),
         },
         CapturedItem::Removal(number) => Item::Remove(ClauseId(*number)),
     })

@@ -34,9 +34,9 @@ pub fn make_bodies(
     } = captured;
     let mut choices = choices;
     choices.reverse();
-    let scopes = scopes_kept(alloc, branch, &choices, next)?;
+    let own = scopes_kept(alloc, branch, &choices, next)?;
     let tails = tails_of(alloc, goals)?;
-    let lists = goals_by_number(alloc, &items, &scopes, &tails)?;
+    let lists = goals_by_number(alloc, &items, branch, &own, &tails)?;
     let live = live_choices(alloc, choices, base)?;
     let bodies = bodies_of(alloc, live, current, &lists)?;
     Ok(bodies)

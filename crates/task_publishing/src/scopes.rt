@@ -1,25 +1,23 @@
 //! The nodes to which cuts are, by how many choice points they keep.
-ghost use Rattle.std.specs.Prelude.{◌≡◌, ℕ, ◌<◌, IfOk, length};
-ghost use Rattle.task_publishing.specs.KeptScopes.{AreScopesOf, scope_at};
+ghost use Rattle.std.specs.Prelude.{◌≡◌, IfOk};
+ghost use Rattle.task_publishing.specs.KeptScopes.{AreScopesOf, all_scopes, last_of, scope_at};
 
 use au_term::NoMemory;
 use region_capture::CapturedChoice;
 use std::alloc::Global;
 
-/// The scopes of all numbers of choice points: of the branch's nodes, the outermost first, and of those that become nodes, the
-/// oldest first, from a number on. A choice point with no alternative becomes none.
+/// The scopes of the numbers of choice points above those of the branch, whose nodes have these numbers, the outermost first: of those that
+/// become nodes, the oldest first, from a number on. A choice point with no alternative becomes none.
 pub(crate) fn scopes_kept(
     alloc: Global,
     branch: &[u64],
     choices: &[CapturedChoice],
     next: u64,
 ) -> Result<Vec<u64>, NoMemory>
-    ensures { IfOk result (λ scopes. AreScopesOf branch.now choices.now next scopes.items) }
+    ensures { IfOk result (λ own. AreScopesOf branch.now choices.now next (all_scopes branch.now own.items)) }
 {
-    let mut scopes = Vec::new(alloc);
-    scopes.push(0)?;
-    scopes.extend_from_slice(branch)?;
-    let mut newest = scopes[branch.len()];
+    let mut own = Vec::new(alloc);
+    let mut newest = last_scope(branch, &own);
     let mut number = next;
     for choice in choices {
         if !choice.alternatives.is_empty() {
@@ -29,19 +27,40 @@ pub(crate) fn scopes_kept(
             };
             number = following;
         }
-        scopes.push(newest)?;
+        own.push(newest)?;
     }
-    Ok(scopes)
+    Ok(own)
 }
 
-/// The scope of a number of choice points: past the last one it is the same.
-pub(crate) fn scope_of(scopes: &[u64], kept: usize) -> u64
-    requires { 0 < length scopes.now }
-    ensures { result ≡ scope_at scopes.now kept }
+/// The scope of a number of choice points, of a branch and own ones: past the last one it is the same. No choice point is in the scope of
+/// the root.
+pub(crate) fn scope_of(branch: &[u64], own: &[u64], kept: usize) -> u64
+    ensures { result ≡ scope_at (all_scopes branch.now own.now) kept }
 {
-    if kept < scopes.len() {
-        scopes[kept]
+    if kept == 0 {
+        return 0;
+    }
+    let place = kept - 1;
+    if place < branch.len() {
+        return branch[place];
+    }
+    let over = place - branch.len();
+    if over < own.len() {
+        own[over]
     } else {
-        scopes[scopes.len() - 1]
+        last_scope(branch, own)
+    }
+}
+
+/// The last one.
+fn last_scope(branch: &[u64], own: &[u64]) -> u64
+    ensures { result ≡ last_of (all_scopes branch.now own.now) }
+{
+    match own.last() {
+        Some(scope) => *scope,
+        None => match branch.last() {
+            Some(scope) => *scope,
+            None => 0,
+        },
     }
 }

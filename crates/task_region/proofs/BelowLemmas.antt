@@ -1,13 +1,11 @@
 -- A kept region goes down to an alternative below it.
-use Rattle.std.proofs.Common.{◌≡◌, ℕ, zero, suc, ◌+◌, ◌<◌, ◌≤◌, true, false, cond, List, [], ◌∷◌, ◌++◌, length, length-append, map, reverse, Option, Some, None, refl, sym, ap, ap₂, ◌∙◌, subst, arith}
+use Rattle.std.proofs.Common.{◌≡◌, ℕ, zero, suc, ◌<◌, true, cond, List, [], ◌∷◌, ◌++◌, length, length-append, map, reverse, Option, Some, None, refl, sym, ap, ap₂, ◌∙◌, subst, arith}
 use Rattle.std.proofs.lemmas.List.{append_assoc, append-nil, length-map, length-reverse, reverse-append, map-append}
 use Rattle.std.specs.Option.{option_map}
 use Rattle.std.specs.Prelude.{is_some}
 use Rattle.au_term.proofs.LogicLemmas.{false_true}
 use Rattle.au_model.specs.Terms.Each.{Each}
-use Rattle.au_model.specs.Terms.MostGeneral.{SameValues}
 use Rattle.au_term.specs.declared.segment.Binding.{Binding}
-use Rattle.au_term.specs.declared.segment.Segment.{Segment}
 use Rattle.region_split.specs.QueryEnds.{IsEnd}
 use Rattle.region_split.specs.Regions.{RegionView}
 use Rattle.region_split.specs.Texts.{TextView}
@@ -18,15 +16,15 @@ use Rattle.tree_nodes.proofs.FoldLemmas.{parent_above}
 use Rattle.tree_nodes.specs.Folds.{IsAbove}
 use Rattle.tree_nodes.specs.Rows.{StoredNode, Rows, row_of_node, node_parent}
 use Rattle.tree_nodes.specs.TreeTables.{NodesView, Stand}
-use Rattle.branch_reading.specs.BranchSegments.{above_in_query, bindings_on, bound_by, next_number, segments_on}
+use Rattle.branch_reading.specs.BranchSegments.{above_in_query, bindings_on, next_number, segments_on}
 use Rattle.branch_reading.specs.SettledWays.{are_bindings_settled}
 use Rattle.task_region.specs.KeptRegions.{KeptView, IsBoundBranch, IsKeptIn}
 use Rattle.task_region.specs.MadeInTurn.{IsMadeBy, CanMake, Makes}
 use Rattle.task_region.specs.PlacesUp.{AreAllUp, AreNumbersOf, HaveNoQuery, LeadsBelow, LeadsUp, body_at, branching_at, segments_above, segments_at}
-use Rattle.task_region.specs.TaskLoads.{HasLoadableBranch, IsBoundOnBranch}
+use Rattle.task_region.specs.TaskLoads.{HasLoadableBranch}
 use Rattle.task_region.proofs.BindingLemmas.{one_above, own_over}
 use Rattle.task_region.proofs.BranchLoadLemmas.{next_first, settled_bindings}
-use Rattle.task_region.proofs.PlaceUpLemmas.{IsThere, above_by, above_there, all_there, step_up}
+use Rattle.task_region.proofs.PlaceUpLemmas.{IsThere, above_by, above_there, step_up}
 
 -- a way on from where another one leads
 pub leads_on : (rows : Rows) (xs ys : List Place) (from to : Option Place) → LeadsUp rows xs from to → LeadsUp rows ys to None → LeadsUp rows (xs ++ ys) from None

@@ -21,7 +21,6 @@ use Rattle.region_floor.proofs.RegionRunLemmas.{entries_by_heights}
 use Rattle.region_floor.specs.Deferred.{all_deferred}
 use Rattle.region_floor.specs.NextNumbers.{NumbersFrom}
 use Rattle.region_floor.specs.RegionRuns.{StandsAfter, by_heights}
-use Rattle.cell_store.specs.StoreView.{Moment}
 use Rattle.region_split.specs.Regions.{RegionView}
 use Rattle.region_split.specs.Texts.{TextView}
 use Rattle.task_region.specs.DeferredItems.{IsDeferredOver}

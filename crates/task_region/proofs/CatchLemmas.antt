@@ -1,5 +1,5 @@
 -- A task over whose floor there are catches alone, and the entries for which they stand.
-use Rattle.std.proofs.Common.{◌≡◌, ◌⊎◌, inl, inr, ℕ, zero, suc, ◌+◌, ◌-◌, ◌<◌, ◌≤◌, true, List, [], ◌∷◌, ◌++◌, append_assoc, length, length-append, Option, Some, None, IsSome, IsSomeAnd, refl, sym, ap, ap₂, ◌∙◌, subst, arith}
+use Rattle.std.proofs.Common.{◌≡◌, ◌⊎◌, inl, inr, ℕ, zero, suc, ◌+◌, ◌-◌, ◌<◌, ◌≤◌, List, [], ◌∷◌, ◌++◌, append_assoc, length, length-append, Option, Some, None, IsSome, IsSomeAnd, refl, sym, ap, ap₂, ◌∙◌, subst, arith}
 use Rattle.std.specs.List.{slice_get}
 use Rattle.std.proofs.lemmas.Bool.{cases_lt}
 use Rattle.std.proofs.lemmas.List.{append-nil}
@@ -9,9 +9,9 @@ use Rattle.au_model.proofs.EachLemmas.{each-append}
 use Rattle.run_model.specs.Machine.Items.{Continuation}
 use Rattle.run_model.specs.Machine.Entries.{Entry, PlainEntry, CatchEntry, FindallEntry, EndEntry}
 use Rattle.cell_store.specs.StoreView.{Moment}
-use Rattle.region_split.specs.ChoicePoints.{RegionSetting, Standing, nothing_standing, continuation_at, alternative_entries, choice_entries, with_entries_on_top, standing_over, IsCatching, IsCatchAt}
+use Rattle.region_split.specs.ChoicePoints.{RegionSetting, Standing, nothing_standing, continuation_at, alternative_entries, choice_entries, with_entries_on_top, standing_over, IsCatching}
 use Rattle.region_split.specs.QueryEnds.{IsEnd, AreEndsOldest}
-use Rattle.region_split.specs.Regions.{RegionView, region_setting, entries_of}
+use Rattle.region_split.specs.Regions.{region_setting, entries_of}
 use Rattle.region_split.specs.declared.choice.Alternatives.{Alternatives}
 use Rattle.region_split.specs.declared.choice.Alternatives.TheVariants.{Clauses, Solutions, Elsewhere, Catch, Findall, QueryEnd}
 use Rattle.region_split.specs.declared.choice.ChoicePoint.{ChoicePoint}

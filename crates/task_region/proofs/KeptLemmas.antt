@@ -1,17 +1,14 @@
 -- Kept regions stay bound to their branches.
-use Rattle.std.proofs.Common.{◌≡◌, ◌<◌, ℕ, List, [], ◌∷◌, length, map, reverse, Option, Some, None, refl, sym, ap, ap₂, ◌∙◌, subst, arith}
+use Rattle.std.proofs.Common.{◌≡◌, ◌<◌, List, [], ◌∷◌, length, map, reverse, Option, Some, None, refl, sym, ap, ap₂, ◌∙◌, subst, arith}
 use Rattle.cell_store.specs.StoreView.{Moment}
-use Rattle.region_split.specs.Regions.{RegionView}
-use Rattle.region_split.specs.Texts.{TextView}
 use Rattle.tree_model.specs.Levels.{Place}
 use Rattle.tree_nodes.specs.Bodies.{Body, Branching}
 use Rattle.tree_nodes.specs.Rows.{StoredNode, Rows, row_of_node}
 use Rattle.tree_nodes.specs.Staying.{StayMade, WasMadeAs}
 use Rattle.tree_nodes.specs.TreeTables.{IsBelow, stored_body}
-use Rattle.task_region.specs.KeptRegions.{KeptView, IsKeptIn, IsOnWay, IsTakenBack, IsWayBound, KeptRegionsStay, TasksLeaveKept}
-use Rattle.task_region.specs.PlacesUp.{IsStepUp, LeadsUp, AreAllUp, AreNumbersOf, missing_body, body_at, branching_at}
+use Rattle.task_region.specs.KeptRegions.{KeptRegionsStay, TasksLeaveKept}
+use Rattle.task_region.specs.PlacesUp.{LeadsUp, AreAllUp, missing_body, body_at, branching_at}
 use Rattle.task_region.specs.TaskLoads.{IsBoundOnBranch}
-use Rattle.task_region.specs.TaskViews.{TaskView}
 use Rattle.task_region.proofs.PlaceUpLemmas.{below_all}
 
 -- the way up was the same before, and so were the branches on it

@@ -1,5 +1,5 @@
 -- Regions that are taken back to their floors.
-use Rattle.std.proofs.Common.{◌≡◌, ◌⊎◌, inl, inr, ◌+◌, ◌<◌, ℕ, List, [], ◌∷◌, ◌++◌, length, length-append, refl, sym, ap, ◌∙◌, subst, arith}
+use Rattle.std.proofs.Common.{◌≡◌, inl, inr, ◌+◌, ℕ, List, [], ◌∷◌, ◌++◌, length, length-append, refl, sym, ap, ◌∙◌, subst}
 use Rattle.au_model.specs.Terms.Each.{Each}
 use Rattle.au_model.proofs.EachLemmas.{each-append}
 use Rattle.cell_store.specs.StoreView.{StoreView}
@@ -9,7 +9,7 @@ use Rattle.region_split.specs.StackOperations.{AddsChoice, CutsTo, TakesNewest}
 use Rattle.region_split.specs.declared.choice.Alternatives.TheVariants.{QueryEnd}
 use Rattle.region_split.specs.declared.choice.ChoicePoint.{ChoicePoint}
 use Rattle.region_split.specs.declared.frame.Position.{Position}
-use Rattle.task_region.specs.KeptRegions.{KeptView, IsTakenBack}
+use Rattle.task_region.specs.KeptRegions.{IsTakenBack}
 use Rattle.tree_model.specs.Levels.{Place}
 
 none_last : (cs : List ChoicePoint) (c : ChoicePoint) → Each StandsForNoEnd (cs ++ c ∷ []) → IsEnd c.alternatives → ⊥

@@ -1,5 +1,5 @@
 -- The region of a task that is loaded from the tree.
-use Rattle.std.specs.Prelude.{◌≡◌, ◌==◌, ℕ, Bool, true, false, not, List, [], ◌∷◌, length, Some, IsSome}
+use Rattle.std.specs.Prelude.{◌≡◌, ◌==◌, ℕ, Bool, true, false, not, List, [], ◌∷◌, Some, IsSome}
 use Rattle.au_term.specs.Term.{VarTerm}
 use Rattle.au_model.specs.Terms.MostGeneral.{SameValues}
 use Rattle.au_model.specs.Terms.Substitutions.{value_of}

@@ -14,6 +14,7 @@ use Rattle.tree_nodes.specs.Rows.{Rows, row_of_node}
 use Rattle.tree_nodes.specs.TreeTables.{NodesView, IsTableOf}
 use Rattle.tree_core.specs.Histories.{TreeView, state_of}
 use Rattle.branch_reading.specs.Readings.{reading}
+use Rattle.task_region.specs.KeptRegions.{IsOnWay}
 use Rattle.task_region.specs.PlacesUp.{items_at_place}
 use Rattle.task_region.specs.TaskLoads.{IsLoadablePlace, LoadsTask}
 use Rattle.task_world.specs.declared.out_tasks.OutTask.{OutTask}
@@ -53,5 +54,5 @@ OutsAreTasksOrEnds =
 
 -- it was loaded, or ends a query
 abbrev pub IsOutThere : TreeView → ℕ → Place → TextView → OutTask → Type 0
-IsOutThere v w a text (Task t) = LoadsTask v.nodes a text t
+IsOutThere v w a text (Task l) = LoadsTask v.nodes a text l.task × IsOnWay v.nodes.rows a text l.numbers.items l.task
 IsOutThere v w a text (QueryEnd ball) = EndsQueryAt w a ball (state_of v.history)

@@ -1,5 +1,6 @@
 //! What is out to a worker and is next at the front of a job's tree: why it may not be taken, how it goes on, and how it closes.
 ghost use Rattle.std.specs.Prelude.{◌≡◌, true, [], is_some, IfOk, OnErr, None};
+ghost use Rattle.tree_nodes.specs.Staying.{StayMade};
 ghost use Rattle.tree_model.specs.EventViews.{place_view};
 ghost use Rattle.tree_model.specs.FrontGates.{Continues};
 ghost use Rattle.tree_model.specs.Legality.{taken_at};
@@ -41,6 +42,7 @@ pub fn go_on<J: JobBrand>(
     requires out { is_some (taken_at worker (place_view at) (state_of tree.old.history)) ≡ true }
     requires leaves { LeavesRest worker (place_view at) (state_of tree.old.history) }
     ensures comes { IfOk result (ComesAbout tree.old tree.new worker (place_view at)) }
+    ensures made { StayMade tree.old.nodes.rows tree.new.nodes.rows }
     ensures err { OnErr result (tree.new.history ≡ tree.old.history) }
 {
     numbered_trees_are_settled();

@@ -1,10 +1,11 @@
 //! What a worker takes up.
-ghost use Rattle.std.specs.Prelude.{◌≡◌, true, is_some, IfOk, IsSome};
+ghost use Rattle.std.specs.Prelude.{◌≡◌, true, is_some, IfOk, IfSome, IsSome};
 ghost use Rattle.std.specs.Arc.{arc_value};
 ghost use Rattle.tree_model.specs.EventViews.{place_view};
 ghost use Rattle.tree_model.specs.Legality.{taken_at};
 ghost use Rattle.tree_nodes.specs.Rows.{row_of_node};
 ghost use Rattle.tree_core.specs.Histories.{state_of};
+ghost use Rattle.task_region.specs.KeptRegions.{IsKeptIn};
 ghost use Rattle.task_region.specs.PlacesUp.{items_at_place};
 ghost use Rattle.task_world.specs.OutTasks.{IsOutThere, end_ball, first_end};
 
@@ -14,7 +15,7 @@ use clause_compile::Item;
 use region_split::Text;
 use std::alloc::Global;
 use std::sync::Arc;
-use task_region::{TaskRegion, load_task};
+use task_region::{KeptRegion, LoadedTask, load_task};
 use tree_core::{JobBrand, Tree};
 use tree_model::AltRef;
 use tree_nodes::Nodes;
@@ -23,20 +24,23 @@ use tree_nodes::Nodes;
 #[derive(Drop)]
 pub enum OutTask {
     /// A task, at the start of its run.
-    Task(TaskRegion),
+    Task(LoadedTask),
     /// The end of a query, with the ball by which it ended, if one did.
     QueryEnd(Option<FlatTerm>),
 }
 
-/// Takes up what is out to a worker: the region of a task is loaded, of a program of this text.
+/// Takes up what is out to a worker: the region of a task is loaded, of a program of this text. A kept region may be given, which goes
+/// down to the task's alternative where that is below it.
 pub fn take_up<J: JobBrand>(
     tree: &Tree<J>,
     worker: u32,
     at: AltRef,
     alloc: Global,
     text: Arc<Text>,
+    kept: Option<KeptRegion>,
 ) -> Result<OutTask, NoMemory>
-    requires { is_some (taken_at worker (place_view at) (state_of tree.now.history)) ≡ true }
+    requires out { is_some (taken_at worker (place_view at) (state_of tree.now.history)) ≡ true }
+    requires kept { IfSome kept (IsKeptIn tree.now.nodes.rows (arc_value text)) }
     ensures { IfOk result (IsOutThere tree.now worker (place_view at) (arc_value text)) }
 {
     outs_are_tasks_or_ends();
@@ -45,7 +49,7 @@ pub fn take_up<J: JobBrand>(
     match end_at(tree.nodes(), at)? {
         Some(ball) => Ok(OutTask::QueryEnd(ball)),
         None => {
-            let task = load_task(tree.nodes(), at, alloc, text)?;
+            let task = load_task(tree.nodes(), at, alloc, text, kept)?;
             Ok(OutTask::Task(task))
         }
     }

@@ -13,7 +13,7 @@ bodies_of_task-requires-clause-own g c =
     let a = place_view c.args.at in
     let ran = c.in_ok-ran.ran in
     let stops
-    = c.tasks_stop_on_runs.ensures.loaded nodes a _ c.in_ok-task.task t c.args.limit ran c.in_ok-task.ensures.loads c.in_ok-ran.ensures in
+    = c.tasks_stop_on_runs.ensures.loaded nodes a _ c.in_ok-task.field-0.task t c.args.limit ran c.in_ok-task.ensures.loads c.in_ok-ran.ensures in
     let next : IsSome t.next = subst (λ (s : TaskStop). LeavesNext s t.next) c.in-Limit.is c.in_ok-ran.ensures.next in
     let there : is_some (cell_at nodes.rows a) ≡ true = cc in
     c.tasks_stop_on_runs.ensures.own nodes a _ ran.taken t c.live-live.ensures.sound there next stops

@@ -31,7 +31,7 @@ loop-solution-preserved c =
           c.in_ok-branch.branch l.invariant.first c.in-Some.ensures own c.in_ok-push_branch.ensures;
     }
 
-pub returns : goal.returns
-returns c =
+pub returns-clause-branches : goal.returns-clause-branches
+returns-clause-branches c =
     let l = c.loop-solution in
     all_made c.args.region.now c.args.node c.args.follows.now c.args.solutions l.left l.branches.items l.invariant.first (c.in_default.ensures.0)

@@ -12,6 +12,7 @@ use Rattle.task_world.specs.FrontSteps.{LeavesBehind}
 use Rattle.task_world.proofs.FrontLemmas.{is_there}
 use Rattle.cell_store.specs.StoreView.{StoreView}
 use Rattle.front_goals.specs.SolutionBranches.{HasBranches}
+use Rattle.front_goals.proofs.KeptLemmas.{kept_after}
 use Rattle.front_goals.proofs.SolutionLemmas.{SolutionLaws, first_got, goes_on_as, none_there, nothing_left, some_there}
 use Rattle.front_goals.proofs.solutions.solve_at_front.Goals as goal
 
@@ -36,7 +37,7 @@ close-requires-clause-nothing g c =
     let first : Branch = c.index.result.now in
     let first_is : slice_get rest.branches 0 ≡ Some first = first_got rest first _ left.rest.branches (c.index.ensures ∙ ap (λ (b : NodeBody). get_or b.branches.items 0 first) c.deref.ensures) in
     nothing_left laws v.history.job v.nodes (state_of v.history) c.args.worker a c.keeps_promises.ensures.nodes.placed c.stays_legal.ensures c.args.region c.args.solutions c.requires.there
-    c.requires.next c.requires.bound rest left first first_is c.in_ok-branches.branches.items c.in_ok-branches.ensures
+    c.requires.next c.requires.bound rest left first first_is c.in_ok-branches.branches.items c.in_ok-branches.ensures.branches
     (none_there c.in_ok-branches.branches.items (vec_len c.in_ok-branches.branches) c.is_empty.result (let k = c.in_ok-branches.branches.ok.0 in omega (arith, k)) c.is_empty.ensures c.if-is_empty.true)
 
 pub go_on_at_front-requires-clause-goes_on : goal.go_on_at_front-requires-clause-goes_on
@@ -55,5 +56,10 @@ go_on_at_front-requires-clause-goes_on g c =
     let number : c.from-next.result ≡ c.args.region.store.now.next = c.from-next.ensures ∙ (c.next.ensures.next ∙ ap (λ (st : StoreView). st.now.next) c.store.ensures.store) in
     let has = subst (λ n. HasBranches n c.in_ok-branches.branches.items (body_view (arc_value c.in_ok-body.body))) number c.in_ok-body.ensures in
     goes_on_as laws v.history.job v.nodes (state_of v.history) c.args.worker a c.keeps_promises.ensures.nodes.placed c.stays_legal.ensures c.args.region c.args.solutions c.requires.there
-    c.requires.next c.requires.bound rest left first first_is c.in_ok-branches.branches.items c.in_ok-branches.ensures (body_view (arc_value c.in_ok-body.body)) has
+    c.requires.next c.requires.bound rest left first first_is c.in_ok-branches.branches.items c.in_ok-branches.ensures.branches (body_view (arc_value c.in_ok-body.body)) has
     (some_there c.in_ok-branches.branches.items (vec_len c.in_ok-branches.branches) c.is_empty.result (let k = c.in_ok-branches.branches.ok.0 in omega (arith, k)) c.is_empty.ensures c.if-is_empty.false)
+
+pub returns-clause-kept : goal.returns-clause-kept
+returns-clause-kept g c =
+    kept_after c.kept_regions_stay.ensures.stay c.args.tree.now.nodes.rows c.go_on_at_front.new.self.nodes.rows (place_view c.args.at) (arc_value c.args.text.now) c.args.numbers.items c.args.region
+    c.solution_branches.new.region c.in_ok-kept.kept c.go_on_at_front.ensures.made c.requires.kept c.in_ok-branches.ensures.back.floor c.in_ok-branches.ensures.back.text c.in_ok-kept.ensures

@@ -5,6 +5,7 @@ use Rattle.task_region.specs.TaskLoads.{StartsOnBranch}
 use Rattle.task_region.specs.TaskViews.{TaskView}
 use Rattle.task_region.specs.declared.running.TaskStop.TheVariants.{Answer}
 use Rattle.task_stops.specs.StopCauses.{StopsThereFor}
+use Rattle.std.specs.Arc.{arc_value}
 use Rattle.tree_core.specs.Histories.{TreeView}
 use Rattle.tree_model.specs.EventViews.{place_view}
 use Rattle.scheduler.proofs.LaterLemmas.{answered_run, as_it_was, at_answer, leaves_some}
@@ -12,10 +13,10 @@ use Rattle.scheduler.proofs.RunLemmas.{run_alone}
 use Rattle.scheduler.proofs.later.answer_or_publish.Goals as goal
 
 pub answer_at_once-requires-clause-stopped : goal.answer_at_once-requires-clause-stopped
-answer_at_once-requires-clause-stopped g c = at_answer c.args.tree.now (place_view c.args.at) c.args.stopped c.requires.stopped c.requires.answer
+answer_at_once-requires-clause-stopped g c = at_answer (arc_value c.args.run.now.text) c.args.tree.now (place_view c.args.at) c.args.stopped c.requires.stopped c.requires.answer
 
 pub answer_at_once-requires-clause-left : goal.answer_at_once-requires-clause-left
-answer_at_once-requires-clause-left g c = leaves_some c.args.tree.now (place_view c.args.at) c.args.stopped c.requires.stopped c.requires.answer
+answer_at_once-requires-clause-left g c = leaves_some (arc_value c.args.run.now.text) c.args.tree.now (place_view c.args.at) c.args.stopped c.requires.stopped c.requires.answer
 
 pub returns-in-None-clause-run : goal.returns-in-None-clause-run
 returns-in-None-clause-run g c =
@@ -31,7 +32,7 @@ publish_left-requires-clause-stops g c =
     let v1 = c.answer_at_once.new.tree in
     as_it_was v0 v1 c.args.worker a s.taken s.task c.in-Some.task
     (subst (ComesOfAnswer v0 v1 c.args.worker a s.taken s.task) c.in-Some.is c.in_ok-left.ensures.comes)
-    (λ (x : TreeView) (t : TaskView). StopsThereFor x.nodes a x.history.job.clauses s.taken t Answer) (at_answer v0 a s c.requires.stopped c.requires.answer).stops
+    (λ (x : TreeView) (t : TaskView). StopsThereFor x.nodes a x.history.job.clauses s.taken t Answer) (at_answer (arc_value c.args.run.now.text) v0 a s c.requires.stopped c.requires.answer).stops
 
 pub publish_left-requires-clause-start : goal.publish_left-requires-clause-start
 publish_left-requires-clause-start g c =

@@ -35,14 +35,13 @@ close_task-requires-clause-over g c =
     let s = c.args.stopped in
     record { task = s.task; stops = subst (StopsThereFor v.nodes (place_view c.args.at) v.history.job.clauses s.taken s.task) c.in-Empty.is c.requires.stopped.stops }
 
-pub returns-in-Empty-clause-back : goal.returns-in-Empty-clause-back
-returns-in-Empty-clause-back g c =
-    on_ok_weaker c.close_task.result
-    (closes c.args.tree.now.history c.close_task.new.tree.history c.args.worker (place_view c.args.at) c.requires.going c.args.stopped.taken)
-    c.close_task.ensures.closes
-
 pub returns-in_default-clause-back : goal.returns-in_default-clause-back
 returns-in_default-clause-back g c =
     on_ok_weaker c.publish_task-in_default.result
     (publishes c.args.tree.now.history c.publish_task-in_default.new.tree.history c.args.worker (place_view c.args.at) c.requires.going c.args.stopped.taken)
     c.publish_task-in_default.ensures.publishes
+
+pub returns-in_ok-close_task-in-Empty-clause-back : goal.returns-in_ok-close_task-in-Empty-clause-back
+returns-in_ok-close_task-in-Empty-clause-back g c =
+    closes c.args.tree.now.history c.close_task.new.tree.history c.args.worker (place_view c.args.at) c.requires.going c.args.stopped.taken
+    c.in_ok-close_task-in-Empty.ensures.closes

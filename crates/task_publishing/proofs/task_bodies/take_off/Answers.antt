@@ -1,4 +1,4 @@
-use Rattle.task_publishing.proofs.BodyLemmas.{floor_there, if_ok, is_off}
+use Rattle.task_publishing.proofs.BodyLemmas.{floor_there, is_off}
 use Rattle.task_publishing.proofs.task_bodies.take_off.Goals as goal
 
 pub capture-requires-clause-floor : goal.capture-requires-clause-floor
@@ -12,6 +12,6 @@ pub returns : goal.returns
 returns c =
     let i = c.into_region-region.ensures in
     let e = c.ends_are_oldest.ensures in
-    if_ok c.capture.result _ _ c.capture.ensures
-    (λ captured k. is_off c.args.task c.into_region-region.result.0 c.into_region-region.result.1 c.into_region-region.result.2
-    c.own_entries_are_taken.ensures.floor c.requires.own i.region i.floor i.next e.ends e.floor e.marks c.capture.new.region captured k)
+    is_off c.args.task c.into_region-region.result.0 c.into_region-region.result.1 c.into_region-region.result.2
+    c.own_entries_are_taken.ensures.floor c.requires.own i.region i.floor i.next e.ends e.floor e.marks c.capture.new.region c.in_ok-captured.captured
+    c.in_ok-captured.ensures c.ends_are_oldest-2.ensures.floor

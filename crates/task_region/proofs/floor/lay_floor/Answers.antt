@@ -1,4 +1,4 @@
-use Rattle.std.proofs.Common.{◌≡◌, ◌≤◌, ◌+◌, length, length-append, ◌∷◌, [], ◌∙◌, sym, ap, subst, arith}
+use Rattle.std.proofs.Common.{◌≡◌, ◌+◌, length, length-append, ◌∷◌, [], ◌∙◌, sym, ap, subst, arith}
 use Rattle.region_split.specs.Regions.{RegionView}
 use Rattle.task_region.specs.BareRegions.{LaysFloor}
 use Rattle.task_region.proofs.FloorLemmas.{low_floor, one_more_end, over_floor}

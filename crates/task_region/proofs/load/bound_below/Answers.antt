@@ -1,4 +1,4 @@
-use Rattle.std.proofs.Common.{◌≡◌, ◌+◌, ◌++◌, [], ◌∷◌, map, reverse, Some, sym, ap, ◌∙◌, subst, arith}
+use Rattle.std.proofs.Common.{◌≡◌, ◌++◌, [], ◌∷◌, map, reverse, Some, sym, ap, ◌∙◌, subst, arith}
 use Rattle.std.specs.Prelude.{IfSome}
 use Rattle.cell_store.specs.StoreView.{StoreView}
 use Rattle.region_split.specs.Regions.{RegionView}
@@ -36,10 +36,10 @@ bind_way-requires-clause-can c =
     let none = subst (λ ys. HaveNoQuery rows (map place_view ys)) c.deref.ensures.value (c.has_query.ensures c.if-has_query.false) in
     let fresh = c.in_ok-fresh.ensures.ok in
     let next : c.fresh.new.self.store.now.next ≡ next_number (segments_at rows (place_view c.args.at ∷ [])) =
-        let old = c.next.ensures.next ∙ ap (λ (st : StoreView). st.now.next) c.store.ensures.store in
-        let more = c.in-Some-checked_sub.ensures in
-        let f = ap (λ (r : RegionView). r.store.now.next) fresh in
-        let e : c.fresh.new.self.store.now.next ≡ c.in_ok-next.next = omega (arith, old, more, f) in e ∙ c.in_ok-next.ensures in
+    let old = c.next.ensures.next ∙ ap (λ (st : StoreView). st.now.next) c.store.ensures.store in
+    let more = c.in-Some-checked_sub.ensures in
+    let f = ap (λ (r : RegionView). r.store.now.next) fresh in
+    let e : c.fresh.new.self.store.now.next ≡ c.in_ok-next.next = omega (arith, old, more, f) in e ∙ c.in_ok-next.ensures in
     subst (λ ys. CanMake c.fresh.new.self (bindings_on (segments_at rows (map place_view ys)))) (sym c.deref-2.ensures.value)
     (can_go_down c.args.nodes.now c.live-live.ensures.sound (place_view c.args.at) xs k text kept below none c.requires.loadable c.fresh.new.self (ap (λ (r : RegionView). r.store.now.bound) fresh) next)
 
@@ -55,10 +55,10 @@ returns c =
     let none = subst (λ ys. HaveNoQuery rows (map place_view ys)) c.deref.ensures.value (c.has_query.ensures c.if-has_query.false) in
     let fresh = c.in_ok-fresh.ensures.ok in
     let next : c.fresh.new.self.store.now.next ≡ next_number (segments_at rows (place_view c.args.at ∷ [])) =
-        let old = c.next.ensures.next ∙ ap (λ (st : StoreView). st.now.next) c.store.ensures.store in
-        let more = c.in-Some-checked_sub.ensures in
-        let f = ap (λ (r : RegionView). r.store.now.next) fresh in
-        let e : c.fresh.new.self.store.now.next ≡ c.in_ok-next.next = omega (arith, old, more, f) in e ∙ c.in_ok-next.ensures in
+    let old = c.next.ensures.next ∙ ap (λ (st : StoreView). st.now.next) c.store.ensures.store in
+    let more = c.in-Some-checked_sub.ensures in
+    let f = ap (λ (r : RegionView). r.store.now.next) fresh in
+    let e : c.fresh.new.self.store.now.next ≡ c.in_ok-next.next = omega (arith, old, more, f) in e ∙ c.in_ok-next.ensures in
     let makes = subst (λ ys. Makes c.fresh.new.self c.bind_way.new.region (bindings_on (segments_at rows (map place_view ys)))) c.deref-2.ensures.value c.in_ok-bind_way.ensures in
     let pushed : c.push_numbers.new.numbers.items ≡ s.numbers.items ++ reverse (map (λ (a : AltRef). a.node) xs) = c.in_ok-push_numbers.ensures ∙ ap (λ ys. s.numbers.items ++ reverse (map (λ (a : AltRef). a.node) ys)) c.deref-3.ensures.value in
     goes_down c.args.nodes.now c.live-live.ensures.sound (place_view c.args.at) xs k text kept below none c.requires.loadable c.fresh.new.self (ap (λ (r : RegionView). r.store.now.bound) fresh) next

@@ -1,15 +1,9 @@
-use Rattle.std.proofs.Common.{◌≡◌, [], length, map, sym, ap, ◌∙◌, subst, arith}
-use Rattle.std.proofs.lemmas.List.{length-map}
+use Rattle.std.proofs.Common.{◌≡◌, length, map, sym, ◌∙◌, subst, arith}
 use Rattle.std.specs.Arc.{arc_value}
-use Rattle.std.specs.Prelude.{slice_get}
 use Rattle.au_model.specs.Terms.Each.{Each}
-use Rattle.branch_reading.specs.SettledWays.{branch_items}
 use Rattle.tree_model.specs.EventViews.{place_view}
-use Rattle.tree_model.specs.Levels.{Place}
 use Rattle.task_region.specs.DeferredItems.{item_of, IsDeferredOver}
-use Rattle.task_region.specs.KeptRegions.{IsBoundBranch}
-use Rattle.task_region.specs.PlacesUp.{AreFallingPlaces, AreNumbersOf, body_at, branching_at}
-use Rattle.task_region.specs.ScopeHeights.{items_over}
+use Rattle.task_region.specs.PlacesUp.{AreNumbersOf, branching_at}
 use Rattle.task_region.specs.TaskLoads.{IsBoundOnBranch}
 use Rattle.task_region.specs.TaskStarts.{StartsTask}
 use Rattle.task_region.proofs.BelowLemmas.{numbers_long}

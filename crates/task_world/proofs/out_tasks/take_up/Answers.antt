@@ -22,21 +22,21 @@ pub end_at-requires : goal.end_at-requires
 end_at-requires g c =
     let v = c.args.tree.now in
     let a = place_view c.args.at in
-    let h = c.outs_are_tasks_or_ends.ensures v.history.job v.nodes c.args.worker a (state_of v.history) c.keeps_promises.ensures.nodes.placed c.stays_legal.ensures c.requires in
+    let h = c.outs_are_tasks_or_ends.ensures v.history.job v.nodes c.args.worker a (state_of v.history) c.keeps_promises.ensures.nodes.placed c.stays_legal.ensures c.requires.out in
     subst (λ (n : NodesView). IsSome (row_of_node n.rows a.node)) (sym c.nodes.ensures) h.there
 
 pub load_task-requires-clause-there : goal.load_task-requires-clause-there
 load_task-requires-clause-there g c =
     let v = c.args.tree.now in
     let a = place_view c.args.at in
-    let h = c.outs_are_tasks_or_ends.ensures v.history.job v.nodes c.args.worker a (state_of v.history) c.keeps_promises.ensures.nodes.placed c.stays_legal.ensures c.requires in
+    let h = c.outs_are_tasks_or_ends.ensures v.history.job v.nodes c.args.worker a (state_of v.history) c.keeps_promises.ensures.nodes.placed c.stays_legal.ensures c.requires.out in
     subst (λ (n : NodesView). IsSome (row_of_node n.rows a.node)) (sym c.nodes-in-None.ensures) h.there
 
 pub load_task-requires-clause-loadable : goal.load_task-requires-clause-loadable
 load_task-requires-clause-loadable g c =
     let v = c.args.tree.now in
     let a = place_view c.args.at in
-    let h = c.outs_are_tasks_or_ends.ensures v.history.job v.nodes c.args.worker a (state_of v.history) c.keeps_promises.ensures.nodes.placed c.stays_legal.ensures c.requires in
+    let h = c.outs_are_tasks_or_ends.ensures v.history.job v.nodes c.args.worker a (state_of v.history) c.keeps_promises.ensures.nodes.placed c.stays_legal.ensures c.requires.out in
     let is = found_first v.nodes.rows c.nodes.result.now.rows c.args.worker a (state_of v.history) None (ap (λ (n : NodesView). n.rows) c.nodes.ensures) h
     (sym c.in-None.is ∙ c.in_ok-ball.ensures) in
     subst (λ (n : NodesView). HasLoadableBranch n.rows a) (sym c.nodes-in-None.ensures) is.loadable
@@ -45,6 +45,6 @@ pub returns-in-Some : goal.returns-in-Some
 returns-in-Some g c =
     let v = c.args.tree.now in
     let a = place_view c.args.at in
-    let h = c.outs_are_tasks_or_ends.ensures v.history.job v.nodes c.args.worker a (state_of v.history) c.keeps_promises.ensures.nodes.placed c.stays_legal.ensures c.requires in
+    let h = c.outs_are_tasks_or_ends.ensures v.history.job v.nodes c.args.worker a (state_of v.history) c.keeps_promises.ensures.nodes.placed c.stays_legal.ensures c.requires.out in
     found_first v.nodes.rows c.nodes.result.now.rows c.args.worker a (state_of v.history) (Some c.in-Some.ball) (ap (λ (n : NodesView). n.rows) c.nodes.ensures) h
     (sym c.in-Some.is ∙ c.in_ok-ball.ensures)

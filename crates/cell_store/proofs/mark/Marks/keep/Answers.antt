@@ -1,6 +1,5 @@
-use Rattle.std.proofs.Common.{[], take, ◌-◌, ◌≡◌, ◌∙◌, List, ap, arith}
+use Rattle.std.proofs.Common.{take, ◌∙◌, ap, arith}
 use Rattle.cell_store.specs.Undoing.{MarksView, marks_over}
-use Rattle.cell_store.specs.declared.mark.Mark.{Mark}
 use Rattle.cell_store.proofs.MarkLemmas.{kept_later, kept_at_floor}
 use Rattle.cell_store.proofs.mark.Marks.keep.Goals as goal
 

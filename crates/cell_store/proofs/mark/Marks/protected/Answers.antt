@@ -21,7 +21,7 @@ returns-in-Some c =
     let own : m ≡ get_or ms (length ms - 1) m = item.1 ∙ ap (λ ks. get_or ks (length ks - 1) m) seen in
     let place : s.at_floor + suc (length ms - 1) ≡ suc (s.at_floor + (length ms - 1)) = omega arith in
     let at : m ≡ get_or (s.floor ∷ marks_over s.floor s.at_floor ms) (s.at_floor + suc (length ms - 1)) m =
-        own ∙ (sym (later_at s.floor s.at_floor (length ms - 1) ms m) ∙ ap (λ k. get_or (s.floor ∷ marks_over s.floor s.at_floor ms) k m) (sym place)) in
+    own ∙ (sym (later_at s.floor s.at_floor (length ms - 1) ms m) ∙ ap (λ k. get_or (s.floor ∷ marks_over s.floor s.at_floor ms) k m) (sym place)) in
     subst (λ (v : MarksView). Each (λ k. k.variables ≤ m.variables) (v.floor ∷ v.marks)) c.self.view_is
     (newest (s.floor ∷ marks_over s.floor s.at_floor ms) (s.at_floor + suc (length ms - 1)) m (subst (λ (v : MarksView). AreNested (v.floor ∷ v.marks)) (sym c.self.view_is) c.requires) many at)
 

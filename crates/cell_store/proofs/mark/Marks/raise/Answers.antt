@@ -1,5 +1,5 @@
-use Rattle.std.proofs.Common.{[], map, length, ◌≡◌, ◌∙◌, ap}
-use Rattle.cell_store.specs.Undoing.{MarksView, marks_over}
+use Rattle.std.proofs.Common.{[], ◌∙◌, ap}
+use Rattle.cell_store.specs.Undoing.{marks_over}
 use Rattle.cell_store.proofs.MarkLemmas.{all_at}
 use Rattle.cell_store.proofs.mark.Marks.raise.Goals as goal
 

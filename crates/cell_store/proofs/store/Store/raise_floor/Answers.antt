@@ -1,4 +1,4 @@
-use Rattle.std.proofs.Common.{◌≡◌, ◌∷◌, [], ◌∙◌, ap, sym, subst, map}
+use Rattle.std.proofs.Common.{◌∷◌, [], ◌∙◌, ap, sym, subst}
 use Rattle.au_model.specs.Terms.Each.{Each}
 use Rattle.cell_store.specs.StoreView.{StoreView, IsConsistent, IsOlderMoment, view_of, raised}
 use Rattle.cell_store.specs.Undoing.{MarksView, mark_now}

@@ -1,4 +1,4 @@
-use Rattle.std.proofs.Common.{◌≡◌, length, sym, ◌∙◌, subst, arith}
+use Rattle.std.proofs.Common.{◌≡◌, length, sym, subst, arith}
 use Rattle.tree_model.specs.EventViews.{place_view}
 use Rattle.task_region.proofs.KeptRegionLemmas.{ends_under, taken_back}
 use Rattle.task_region.proofs.kept.KeptRegion.of.Goals as goal
