@@ -1,7 +1,6 @@
 -- The bindings since a mark of what was seen, as they are found.
-use Rattle.std.proofs.Common.{◌≡◌, ◌⊎◌, inl, inr, ℕ, zero, suc, ◌+◌, ◌<◌, ◌≤◌, ◌==◌, Bool, true, false, List, [], ◌∷◌, ◌++◌, Vec, get_or, set, length, length-set, get_or-set_same, take, nat_lt, refl, sym, ap, ◌∙◌, subst, arith}
+use Rattle.std.proofs.Common.{◌≡◌, ◌⊎◌, inl, inr, ℕ, zero, suc, ◌+◌, ◌<◌, ◌≤◌, ◌==◌, Bool, true, false, List, [], ◌∷◌, ◌++◌, get_or, set, length, length-set, get_or-set_same, take, nat_lt, refl, sym, ap, ◌∙◌, subst, arith}
 use Rattle.std.specs.List.{Contains}
-use Rattle.std.specs.Global.{Global}
 use Rattle.std.proofs.lemmas.Bool.{eqb-true}
 use Rattle.std.proofs.lemmas.Bool.Decides.{nat_tests}
 use Rattle.std.proofs.lemmas.List.{take_more}
@@ -38,11 +37,6 @@ unset_others (b ∷ seen) zero (suc v) h = inl h
 unset_others (b ∷ seen) (suc i) zero h = inl h
 unset_others (b ∷ seen) (suc i) (suc v) h = elim (unset_others seen i v h) [ inl k ↦ inl k | inr e ↦ inr (ap suc e) ]
 
-pub got_seen : (seen : List Bool) (v : ℕ) → v < length seen → get_or seen v true ≡ true → IsSeen seen v
-got_seen [] v lt h = absurd (omega (arith, lt))
-got_seen (b ∷ seen) zero lt h = h
-got_seen (b ∷ seen) (suc v) lt h = got_seen seen v (omega (arith, lt)) h
-
 -- variables gone through, as far as here
 module _ (vs : List ℕ) (i : ℕ) (lt : i < length vs) where
   pub one_more : (v : ℕ) → Contains (take (i + 1) vs) v → Contains (take i vs) v ⊎ (get_or vs i 0 ≡ v)
@@ -77,8 +71,8 @@ forgets_more vs i lt start old new f is = record {
     last_of xs x v e = subst (Contains (xs ++ x ∷ [])) e (Contains-push xs x)
 
 -- the binding of one more variable
-module _ (P Q : ℕ → Type 0) (st : StoreView) (v : ℕ) (old new : Needed) (k : KeepsAmong P st old) (kept : (w : ℕ) → IsSeen old.seen.items w → IsSeen new.seen.items w) (own : Q v) (is_seen : IsSeen new.seen.items v) (wider : (w : ℕ) → P w → Q w)
-    (only : (w : ℕ) → Q w → IsSeen new.seen.items w → (P w × IsSeen old.seen.items w) ⊎ (w ≡ v)) where
+module _ (P Q : ℕ → Type 0) (st : StoreView) (v : ℕ) (old new : Needed) (k : KeepsAmong P st old) (kept : (w : ℕ) → IsSeen old.seen w → IsSeen new.seen w) (own : Q v) (is_seen : IsSeen new.seen v) (wider : (w : ℕ) → P w → Q w)
+    (only : (w : ℕ) → Q w → IsSeen new.seen w → (P w × IsSeen old.seen w) ⊎ (w ≡ v)) where
   still : Each (IsAmong Q st new) old.bindings
   still = each-more (IsAmong P st old) (IsAmong Q st new) (λ b h. record { own = wider b.var h.own; is_seen = kept b.var h.is_seen; written = h.written }) old.bindings k.each
 
@@ -90,7 +84,7 @@ module _ (P Q : ℕ → Type 0) (st : StoreView) (v : ℕ) (old new : Needed) (k
       let its : IsAmong Q st new b
       = record {
         own = subst Q i own;
-        is_seen = subst (IsSeen new.seen.items) i is_seen;
+        is_seen = subst (IsSeen new.seen) i is_seen;
         written = record { is = refl; stands = ap (value_of st.now.bound) w.is ∙ w.stands; older = λ u e. let lt = w.older u e in omega (arith, lt, i); below = w.below };
       } in
       record {
@@ -115,13 +109,13 @@ module _ (P Q : ℕ → Type 0) (st : StoreView) (v : ℕ) (old new : Needed) (k
 
 -- older variables that are seen, as far as here
 pub record SeesTo (st : StoreView) (vs : List ℕ) (i : ℕ) (old : List Bool) (new : Needed) : Type 0 where
-  pub kept : (v : ℕ) → IsSeen old v → IsSeen new.seen.items v
-  pub only : (v : ℕ) → IsSeen new.seen.items v → IsSeen old v ⊎ Contains vs v
-  pub all : (v : ℕ) → Contains (take i vs) v → IsSeen new.seen.items v
-  pub long : length new.seen.items ≡ length old
+  pub kept : (v : ℕ) → IsSeen old v → IsSeen new.seen v
+  pub only : (v : ℕ) → IsSeen new.seen v → IsSeen old v ⊎ Contains vs v
+  pub all : (v : ℕ) → Contains (take i vs) v → IsSeen new.seen v
+  pub long : length new.seen ≡ length old
   pub keeps : KeepsAmong (Contains vs) st new
 
-pub sees_none : (st : StoreView) (vs : List ℕ) (n : Needed) → n.bindings ≡ [] → ((v : ℕ) → Contains vs v → IsSeen n.seen.items v → ⊥) → SeesTo st vs 0 n.seen.items n
+pub sees_none : (st : StoreView) (vs : List ℕ) (n : Needed) → n.bindings ≡ [] → ((v : ℕ) → Contains vs v → IsSeen n.seen v → ⊥) → SeesTo st vs 0 n.seen n
 sees_none st vs n none unseen = record {
   kept = λ v h. h;
   only = λ v h. inl h;
@@ -134,40 +128,40 @@ sees_none st vs n none unseen = record {
   };
 }
 
-pub within : (st : StoreView) (vs : List ℕ) (i : ℕ) → i < length vs → (start : List Bool) (old : Needed) → SeesTo st vs i start old → Each (λ v. v < st.now.next) vs → st.now.next ≤ length start → get_or vs i 0 < length old.seen.items
+pub within : (st : StoreView) (vs : List ℕ) (i : ℕ) → i < length vs → (start : List Bool) (old : Needed) → SeesTo st vs i start old → Each (λ v. v < st.now.next) vs → st.now.next ≤ length start → get_or vs i 0 < length old.seen
 within st vs i lt start old s there long = let own = each_got (λ v. v < st.now.next) vs i 0 there lt in let l = s.long in omega (arith, own, l, long)
 
 module _ (st : StoreView) (vs : List ℕ) (i : ℕ) (lt : i < length vs) (start : List Bool) (old new : Needed) (s : SeesTo st vs i start old) where
   abbrev v : ℕ
   v = get_or vs i 0
 
-  pub sees_again : IsSeen old.seen.items v → SeesTo st vs (i + 1) start old
+  pub sees_again : IsSeen old.seen v → SeesTo st vs (i + 1) start old
   sees_again h = record {
     kept = s.kept;
     only = s.only;
-    all = λ w c. elim (one_more vs i lt w c) [ inl j ↦ s.all w j | inr e ↦ subst (IsSeen old.seen.items) e h ];
+    all = λ w c. elim (one_more vs i lt w c) [ inl j ↦ s.all w j | inr e ↦ subst (IsSeen old.seen) e h ];
     long = s.long;
     keeps = s.keeps;
   }
 
-  module _ (not_yet : get_or old.seen.items v false ≡ false) (set_is : new.seen.items ≡ set old.seen.items v true) (inside : v < length old.seen.items) (adds : AddsBinding st v old.bindings new.bindings) where
-    more : (w : ℕ) → IsSeen old.seen.items w → IsSeen new.seen.items w
-    more w h = subst (λ xs. get_or xs w false ≡ true) (sym set_is) (seen_set old.seen.items v w h)
+  module _ (not_yet : get_or old.seen v false ≡ false) (set_is : new.seen ≡ set old.seen v true) (inside : v < length old.seen) (adds : AddsBinding st v old.bindings new.bindings) where
+    more : (w : ℕ) → IsSeen old.seen w → IsSeen new.seen w
+    more w h = subst (λ xs. get_or xs w false ≡ true) (sym set_is) (seen_set old.seen v w h)
 
-    alone : (w : ℕ) → IsSeen new.seen.items w → IsSeen old.seen.items w ⊎ (w ≡ v)
-    alone w h = set_only old.seen.items v w (subst (λ xs. get_or xs w false ≡ true) set_is h)
+    alone : (w : ℕ) → IsSeen new.seen w → IsSeen old.seen w ⊎ (w ≡ v)
+    alone w h = set_only old.seen v w (subst (λ xs. get_or xs w false ≡ true) set_is h)
 
-    now_seen : IsSeen new.seen.items v
-    now_seen = subst (λ xs. get_or xs v false ≡ true) (sym set_is) (get_or-set_same old.seen.items v true false inside)
+    now_seen : IsSeen new.seen v
+    now_seen = subst (λ xs. get_or xs v false ≡ true) (sym set_is) (get_or-set_same old.seen v true false inside)
 
     pub sees_next : SeesTo st vs (i + 1) start new
     sees_next = record {
       kept = λ w h. more w (s.kept w h);
       only = λ w h. elim (alone w h) [ inl k ↦ s.only w k | inr e ↦ inr (subst (Contains vs) (sym e) (here vs i lt)) ];
-      all = λ w c. elim (one_more vs i lt w c) [ inl j ↦ more w (s.all w j) | inr e ↦ subst (IsSeen new.seen.items) e now_seen ];
-      long = ap length set_is ∙ (length-set old.seen.items v true ∙ s.long);
+      all = λ w c. elim (one_more vs i lt w c) [ inl j ↦ more w (s.all w j) | inr e ↦ subst (IsSeen new.seen) e now_seen ];
+      long = ap length set_is ∙ (length-set old.seen v true ∙ s.long);
       keeps = adds_one (Contains vs) (Contains vs) st v old new s.keeps more (here vs i lt) now_seen (λ w p. p) (λ w p h. elim (alone w h) [ inl k ↦ inl (p, k) | inr e ↦ inr e ])
-          (λ b h e. let yes : get_or old.seen.items v false ≡ true = subst (IsSeen old.seen.items) e h.is_seen in let no : false ≡ true = sym not_yet ∙ yes in absurd cc) adds;
+          (λ b h e. let yes : get_or old.seen v false ≡ true = subst (IsSeen old.seen) e h.is_seen in let no : false ≡ true = sym not_yet ∙ yes in absurd cc) adds;
     }
 
 -- new variables that were seen, as far as here
@@ -185,8 +179,8 @@ writes_none st first n = record {
 }
 
 module _ (st : StoreView) (first v : ℕ) (le : first ≤ v) (start old new : Needed) (w : WritesTo st first v start old) (same : new.seen ≡ old.seen) where
-  items : new.seen.items ≡ old.seen.items
-  items = ap (λ (s : Vec Bool Global). s.items) same
+  items : new.seen ≡ old.seen
+  items = same
 
   narrower : (vs : List ℕ) (u : ℕ) → IsOfThese vs first (v + 1) u → IsOfThese vs first v u ⊎ (u ≡ v)
   narrower vs u (inl c) = inl (inl c)
@@ -200,7 +194,7 @@ module _ (st : StoreView) (first v : ℕ) (le : first ≤ v) (start old new : Ne
   wider_these vs u (inl c) = inl c
   wider_these vs u (inr r) = inr (r.0, (let lt = r.1 in omega (arith, lt)))
 
-  pub writes_next : IsSeen old.seen.items v → AddsBinding st v old.bindings new.bindings → WritesTo st first (v + 1) start new
+  pub writes_next : IsSeen old.seen v → AddsBinding st v old.bindings new.bindings → WritesTo st first (v + 1) start new
   writes_next h adds = record {
     same = same ∙ w.same;
     keeps = λ vs older k.
@@ -212,7 +206,7 @@ module _ (st : StoreView) (first v : ℕ) (le : first ≤ v) (start old new : Ne
         ]) adds;
   }
 
-  pub writes_not : (IsSeen old.seen.items v → ⊥) → new.bindings ≡ old.bindings → WritesTo st first (v + 1) start new
+  pub writes_not : (IsSeen old.seen v → ⊥) → new.bindings ≡ old.bindings → WritesTo st first (v + 1) start new
   writes_not unseen bindings = record {
     same = same ∙ w.same;
     keeps = λ vs older k.
@@ -221,8 +215,8 @@ module _ (st : StoreView) (first v : ℕ) (le : first ≤ v) (start old new : Ne
           each = subst (Each (IsAmong (IsOfThese vs first (v + 1)) st new)) (sym bindings) (each-more (IsAmong (IsOfThese vs first v) st old) (IsAmong (IsOfThese vs first (v + 1)) st new) (λ b a. record { own = wider_these vs b.var a.own; is_seen = subst (λ xs. get_or xs b.var false ≡ true) (sym items) a.is_seen; written = a.written }) old.bindings was.each);
           once = subst (λ bs. BindOnce (captured_bindings bs)) (sym bindings) was.once;
           all = λ u q s.
-              let before : get_or old.seen.items u false ≡ true = subst (λ xs. get_or xs u false ≡ true) items s in
-              subst (λ bs. (value_of st.now.bound u ≡ VarTerm u) ⊎ IsBoundAmong (captured_bindings bs) u) (sym bindings) (elim (narrower vs u q) [ inl p ↦ was.all u p before | inr e ↦ absurd (unseen (subst (IsSeen old.seen.items) e before)) ]);
+              let before : get_or old.seen u false ≡ true = subst (λ xs. get_or xs u false ≡ true) items s in
+              subst (λ bs. (value_of st.now.bound u ≡ VarTerm u) ⊎ IsBoundAmong (captured_bindings bs) u) (sym bindings) (elim (narrower vs u q) [ inl p ↦ was.all u p before | inr e ↦ absurd (unseen (subst (IsSeen old.seen) e before)) ]);
         };
   }
 
@@ -235,25 +229,25 @@ older_below st mark lt older o =
 -- a level is opened
 module _ (st : StoreView) (older : List ℕ) (start unseen : List Bool) (mid end : Needed) (f : Forgets older start unseen) (s : SeesThese st older unseen mid) (first : ℕ) (w : WritesSeen st first st.now.next mid end)
     (below : Each (λ v. v < st.now.next) older) where
-  same_flags : end.seen.items ≡ mid.seen.items
-  same_flags = ap (λ (x : Vec Bool Global). x.items) w.same
+  same_flags : end.seen ≡ mid.seen
+  same_flags = w.same
 
-  in_mid : (v : ℕ) → IsSeen end.seen.items v → IsSeen mid.seen.items v
+  in_mid : (v : ℕ) → IsSeen end.seen v → IsSeen mid.seen v
   in_mid v h = subst (λ xs. get_or xs v false ≡ true) same_flags h
 
-  in_end : (v : ℕ) → IsSeen mid.seen.items v → IsSeen end.seen.items v
+  in_end : (v : ℕ) → IsSeen mid.seen v → IsSeen end.seen v
   in_end v h = subst (λ xs. get_or xs v false ≡ true) (sym same_flags) h
 
-  pub opens_below : SeesBelow st.now.next start end.seen.items
+  pub opens_below : SeesBelow st.now.next start end.seen
   opens_below = record {
     kept = λ v h. in_end v (elim (f.others v h) [ inl k ↦ s.kept v k | inr c ↦ s.all v c ]);
     only = λ v h. elim (s.only v (in_mid v h)) [ inl k ↦ inl (f.only v k) | inr c ↦ inr (each_of (λ x. x < st.now.next) older v below c) ];
   }
 
-  pub opens_long : length end.seen.items ≡ length start
+  pub opens_long : length end.seen ≡ length start
   opens_long = ap length same_flags ∙ (s.long ∙ f.long)
 
-  pub opens_keeps : IsValidStore st → (m : Moment) → first ≡ m.next → AreOlderSince m st older → KeepsSeen (bound_at m) (bound_at st.now) end.seen.items end.bindings
+  pub opens_keeps : IsValidStore st → (m : Moment) → first ≡ m.next → AreOlderSince m st older → KeepsSeen (bound_at m) (bound_at st.now) end.seen end.bindings
   opens_keeps valid m first_is o =
       let k = w.keeps older (subst (λ n. Each (λ v. v < n) older) (sym first_is) o.older) s.keeps in
       record {
@@ -262,13 +256,13 @@ module _ (st : StoreView) (older : List ℕ) (start unseen : List Bool) (mid end
         below = o.below;
         further = o.further;
         new = valid.new;
-        each = each-more (IsAmong (IsOfThese older first st.now.next) st end) (IsKeptBinding (bound_at m) (bound_at st.now) end.seen.items) kept_binding end.bindings k.each;
+        each = each-more (IsAmong (IsOfThese older first st.now.next) st end) (IsKeptBinding (bound_at m) (bound_at st.now) end.seen) kept_binding end.bindings k.each;
         once = k.once;
         all = λ v free h. by_place v free h k;
         older = λ v lt free. elim (o.all v lt free) [ inl g ↦ inl g | inr c ↦ inr (in_end v (s.all v c)) ];
       }
     where
-      kept_binding : (b : Binding) → IsAmong (IsOfThese older first st.now.next) st end b → IsKeptBinding (bound_at m) (bound_at st.now) end.seen.items b
+      kept_binding : (b : Binding) → IsAmong (IsOfThese older first st.now.next) st end b → IsKeptBinding (bound_at m) (bound_at st.now) end.seen b
       kept_binding b a = record {
         is_seen = a.is_seen;
         there = elim a.own [ inl c ↦ each_of (λ x. x < st.now.next) older b.var below c | inr r ↦ r.1 ];
@@ -278,7 +272,7 @@ module _ (st : StoreView) (older : List ℕ) (start unseen : List Bool) (mid end
         below = a.written.below;
       }
 
-      by_place : (v : ℕ) → value_of m.bound v ≡ VarTerm v → IsSeen end.seen.items v → KeepsAmong (IsOfThese older first st.now.next) st end → (value_of st.now.bound v ≡ VarTerm v) ⊎ IsBoundAmong (captured_bindings end.bindings) v
+      by_place : (v : ℕ) → value_of m.bound v ≡ VarTerm v → IsSeen end.seen v → KeepsAmong (IsOfThese older first st.now.next) st end → (value_of st.now.bound v ≡ VarTerm v) ⊎ IsBoundAmong (captured_bindings end.bindings) v
       by_place v free h k = by_test (nat_lt v m.next) refl (nat_lt v st.now.next) refl
         where
           by_test : (a : Bool) → nat_lt v m.next ≡ a → (b : Bool) → nat_lt v st.now.next ≡ b → (value_of st.now.bound v ≡ VarTerm v) ⊎ IsBoundAmong (captured_bindings end.bindings) v
@@ -287,10 +281,10 @@ module _ (st : StoreView) (older : List ℕ) (start unseen : List Bool) (mid end
           by_test false e false d = let le : st.now.next ≤ v = grind (arith, nat_tests) in inl (valid.new v le)
 
 -- and what is reached from there
-module _ (st : StoreView) (mark first : ℕ) (start : List Bool) (first_of new : Needed) (o : OpensLevel st mark start first_of) (s : SeesMore st first first_of new) (first_is : IsNextAtMark st mark first) (values : ReachesValues st.now.next new.seen.items new.bindings) where
-  pub level_kept : KeepsSince st mark start new.seen.items new.bindings
+module _ (st : StoreView) (mark first : ℕ) (start : List Bool) (first_of new : Needed) (o : OpensLevel st mark start first_of) (s : SeesMore st first first_of new) (first_is : IsNextAtMark st mark first) (values : ReachesValues st.now.next new.seen new.bindings) where
+  pub level_kept : KeepsSince st mark start new.seen new.bindings
   level_kept = record {
-    below = below_twice st.now.next start first_of.seen.items new.seen.items o.below s.below;
+    below = below_twice st.now.next start first_of.seen new.seen o.below s.below;
     long = s.long ∙ o.long;
     level = λ m marked. record {
       keeps = s.keeps (bound_at m) (first_is marked.before marked.after m marked.are marked.over) (o.keeps m marked);

@@ -10,6 +10,7 @@ pub mod SolutionLemmas
 pub mod SolutionsLemmas
 pub mod GroupLemmas
 pub mod ReachLemmas
+pub mod SeenTableLemmas
 pub mod SeenLemmas
 pub mod LevelLemmas
 pub mod ChoiceLemmas

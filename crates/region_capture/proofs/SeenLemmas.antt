@@ -102,41 +102,41 @@ kept_still under now old new kept bs k =
     each-more (IsKeptBinding under now old) (IsKeptBinding under now new) (λ b h. record { is_seen = kept b.var h.is_seen; there = h.there; free = h.free; stands = h.stands; older = h.older; below = h.below }) bs k
 
 -- a variable is seen
-module _ (st : StoreView) (first : ℕ) (old new : Needed) (v : ℕ) (there : v < st.now.next) (long : st.now.next ≤ length old.seen.items) (not_yet : get_or old.seen.items v false ≡ false)
-    (set_is : new.seen.items ≡ set old.seen.items v true) where
-  within : v < length old.seen.items
+module _ (st : StoreView) (first : ℕ) (old new : Needed) (v : ℕ) (there : v < st.now.next) (long : st.now.next ≤ length old.seen) (not_yet : get_or old.seen v false ≡ false)
+    (set_is : new.seen ≡ set old.seen v true) where
+  within : v < length old.seen
   within = omega (arith, long, there)
 
-  same_long : length new.seen.items ≡ length old.seen.items
-  same_long = ap length set_is ∙ length-set old.seen.items v true
+  same_long : length new.seen ≡ length old.seen
+  same_long = ap length set_is ∙ length-set old.seen v true
 
-  still : (w : ℕ) → IsSeen old.seen.items w → IsSeen new.seen.items w
-  still w h = subst (λ xs. get_or xs w false ≡ true) (sym set_is) (seen_set old.seen.items v w h)
+  still : (w : ℕ) → IsSeen old.seen w → IsSeen new.seen w
+  still w h = subst (λ xs. get_or xs w false ≡ true) (sym set_is) (seen_set old.seen v w h)
 
-  alone : (w : ℕ) → IsSeen new.seen.items w → IsSeen old.seen.items w ⊎ (w ≡ v)
-  alone w h = set_only old.seen.items v w (subst (λ xs. get_or xs w false ≡ true) set_is h)
+  alone : (w : ℕ) → IsSeen new.seen w → IsSeen old.seen w ⊎ (w ≡ v)
+  alone w h = set_only old.seen v w (subst (λ xs. get_or xs w false ≡ true) set_is h)
 
-  pub now_seen : IsSeen new.seen.items v
-  now_seen = subst (λ xs. get_or xs v false ≡ true) (sym set_is) (get_or-set_same old.seen.items v true false within)
+  pub now_seen : IsSeen new.seen v
+  now_seen = subst (λ xs. get_or xs v false ≡ true) (sym set_is) (get_or-set_same old.seen v true false within)
 
-  less : unseen new.seen.items + 1 ≡ unseen old.seen.items
-  less = ap (λ xs. unseen xs + 1) set_is ∙ set_fewer old.seen.items v within not_yet
+  less : unseen new.seen + 1 ≡ unseen old.seen
+  less = ap (λ xs. unseen xs + 1) set_is ∙ set_fewer old.seen v within not_yet
 
-  sees_below : SeesBelow st.now.next old.seen.items new.seen.items
+  sees_below : SeesBelow st.now.next old.seen new.seen
   sees_below = record { kept = still; only = λ w h. elim (alone w h) [ inl k ↦ inl k | inr e ↦ inr (omega (arith, e, there)) ] }
 
-  unlike : (w : ℕ) → IsSeen old.seen.items w → w ≡ v → ⊥
-  unlike w h e = let seen : get_or old.seen.items v false ≡ true = subst (λ x. get_or old.seen.items x false ≡ true) e h in let no : false ≡ true = sym not_yet ∙ seen in absurd cc
+  unlike : (w : ℕ) → IsSeen old.seen w → w ≡ v → ⊥
+  unlike w h e = let seen : get_or old.seen v false ≡ true = subst (λ x. get_or old.seen x false ≡ true) e h in let no : false ≡ true = sym not_yet ∙ seen in absurd cc
 
   -- without a further binding
-  sees_same : new.bindings ≡ old.bindings → ((under : BoundThen) → first ≡ under.next → KeepsSeen under (bound_at st.now) old.seen.items old.bindings → value_of under.bound v ≡ VarTerm v → value_of st.now.bound v ≡ VarTerm v)
+  sees_same : new.bindings ≡ old.bindings → ((under : BoundThen) → first ≡ under.next → KeepsSeen under (bound_at st.now) old.seen old.bindings → value_of under.bound v ≡ VarTerm v → value_of st.now.bound v ≡ VarTerm v)
       → SeesMore st first old new
   sees_same same free = record {
     below = sees_below;
     long = same_long;
     keeps = λ under e k.
-        keeps_with under (bound_at st.now) old.seen.items new.seen.items old.bindings new.bindings k still
-        (subst (Each (IsKeptBinding under (bound_at st.now) new.seen.items)) (sym same) (kept_still under (bound_at st.now) old.seen.items new.seen.items still old.bindings k.each))
+        keeps_with under (bound_at st.now) old.seen new.seen old.bindings new.bindings k still
+        (subst (Each (IsKeptBinding under (bound_at st.now) new.seen)) (sym same) (kept_still under (bound_at st.now) old.seen new.seen still old.bindings k.each))
         (subst (λ bs. BindOnce (captured_bindings bs)) (sym same) k.once)
         (λ w f h. elim (alone w h) [
           | inl o ↦ subst (λ bs. IsFreeOrBound st bs w) (sym same) (k.all w f o)
@@ -158,18 +158,18 @@ module _ (st : StoreView) (first : ℕ) (old new : Needed) (v : ℕ) (there : v 
     keeps = λ under e k.
         let b = a.binding in
         let w = a.written in
-        let own : IsKeptBinding under (bound_at st.now) new.seen.items b
+        let own : IsKeptBinding under (bound_at st.now) new.seen b
         = record {
-          is_seen = subst (IsSeen new.seen.items) (sym w.is) now_seen;
+          is_seen = subst (IsSeen new.seen) (sym w.is) now_seen;
           there = let i = w.is in omega (arith, i, there);
           free = k.unbound b.var (let i = w.is in omega (arith, i, le, e));
           stands = ap (value_of st.now.bound) w.is ∙ w.stands;
           older = λ u is. let lt = w.older u is in let i = w.is in omega (arith, lt, i);
           below = w.below;
         } in
-        keeps_with under (bound_at st.now) old.seen.items new.seen.items old.bindings new.bindings k still
-        (subst (Each (IsKeptBinding under (bound_at st.now) new.seen.items)) (sym a.added) (each-append (IsKeptBinding under (bound_at st.now) new.seen.items) old.bindings (b ∷ []) (kept_still under (bound_at st.now) old.seen.items new.seen.items still old.bindings k.each) (own, tt)))
-        (subst (λ bs. BindOnce (captured_bindings bs)) (sym a.added) (once_push old.bindings b k.once (each-more (IsKeptBinding under (bound_at st.now) old.seen.items) (λ x. x.var ≡ b.var → ⊥) (λ x h i. unlike x.var h.is_seen (i ∙ w.is)) old.bindings k.each)))
+        keeps_with under (bound_at st.now) old.seen new.seen old.bindings new.bindings k still
+        (subst (Each (IsKeptBinding under (bound_at st.now) new.seen)) (sym a.added) (each-append (IsKeptBinding under (bound_at st.now) new.seen) old.bindings (b ∷ []) (kept_still under (bound_at st.now) old.seen new.seen still old.bindings k.each) (own, tt)))
+        (subst (λ bs. BindOnce (captured_bindings bs)) (sym a.added) (once_push old.bindings b k.once (each-more (IsKeptBinding under (bound_at st.now) old.seen) (λ x. x.var ≡ b.var → ⊥) (λ x h i. unlike x.var h.is_seen (i ∙ w.is)) old.bindings k.each)))
         (λ u f h. subst (λ bs. IsFreeOrBound st bs u) (sym a.added) (elim (alone u h) [
           | inl o ↦ among_still st old.bindings b u (k.all u f o)
           | inr i ↦ inr (among_last old.bindings b u (w.is ∙ sym i))
@@ -192,7 +192,7 @@ below_twice next a b c p q = record { kept = λ v h. q.kept v (p.kept v h); only
 
 pub sees_nothing : (st : StoreView) (first : ℕ) (n : Needed) → SeesMore st first n n
 sees_nothing st first n = record {
-  below = below_nothing st.now.next n.seen.items;
+  below = below_nothing st.now.next n.seen;
   long = refl;
   keeps = λ under e k. k;
   more = [];
@@ -202,7 +202,7 @@ sees_nothing st first n = record {
 
 pub sees_twice : (st : StoreView) (first : ℕ) (a b c : Needed) → SeesMore st first a b → SeesMore st first b c → SeesMore st first a c
 sees_twice st first a b c p q = record {
-  below = below_twice st.now.next a.seen.items b.seen.items c.seen.items p.below q.below;
+  below = below_twice st.now.next a.seen b.seen c.seen p.below q.below;
   long = q.long ∙ p.long;
   keeps = λ under e k. q.keeps under e (p.keeps under e k);
   more = p.more ++ q.more;

@@ -1,3 +1,4 @@
+pub mod SeenVariables
 pub mod CapturedItems
 pub mod CapturedMeanings
 pub mod CapturedChoices

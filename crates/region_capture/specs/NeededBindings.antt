@@ -41,15 +41,15 @@ unseen (b ∷ seen) = cond b 0 1 + unseen seen
 
 -- how many are left to be seen, or were found bound
 abbrev pub reach_left : Needed → ℕ
-reach_left n = unseen n.seen.items + length n.bindings
+reach_left n = unseen n.seen + length n.bindings
 
 -- further variables were seen, with the bindings of those that came at a number or later: where older ones that were bound since then
 -- had been seen, these are the bindings of all that were seen
 pub record SeesMore (st : StoreView) (first : ℕ) (old new : Needed) : Type 0 where
-  pub below : SeesBelow st.now.next old.seen.items new.seen.items
-  pub long : length new.seen.items ≡ length old.seen.items
-  pub keeps : (under : BoundThen) → first ≡ under.next → KeepsSeen under (bound_at st.now) old.seen.items old.bindings
-      → KeepsSeen under (bound_at st.now) new.seen.items new.bindings
+  pub below : SeesBelow st.now.next old.seen new.seen
+  pub long : length new.seen ≡ length old.seen
+  pub keeps : (under : BoundThen) → first ≡ under.next → KeepsSeen under (bound_at st.now) old.seen old.bindings
+      → KeepsSeen under (bound_at st.now) new.seen new.bindings
   pub more : List Binding
   pub added : new.bindings ≡ old.bindings ++ more
   pub fewer : reach_left new ≤ reach_left old
@@ -64,21 +64,21 @@ pub record Forgets (variables : List ℕ) (old new : List Bool) : Type 0 where
 -- the binding of one of some variables that was seen
 pub record IsAmong (among : ℕ → Type 0) (st : StoreView) (n : Needed) (b : Binding) : Type 0 where
   pub own : among b.var
-  pub is_seen : IsSeen n.seen.items b.var
+  pub is_seen : IsSeen n.seen b.var
   pub written : IsWrittenFor st b.var b
 
 -- those of all that were seen, each once
 pub record KeepsAmong (among : ℕ → Type 0) (st : StoreView) (n : Needed) : Type 0 where
   pub each : Each (IsAmong among st n) n.bindings
   pub once : BindOnce (captured_bindings n.bindings)
-  pub all : (v : ℕ) → among v → IsSeen n.seen.items v → (value_of st.now.bound v ≡ VarTerm v) ⊎ IsBoundAmong (captured_bindings n.bindings) v
+  pub all : (v : ℕ) → among v → IsSeen n.seen v → (value_of st.now.bound v ≡ VarTerm v) ⊎ IsBoundAmong (captured_bindings n.bindings) v
 
 -- some variables were seen, and no others than before
 pub record SeesThese (st : StoreView) (variables : List ℕ) (old : List Bool) (new : Needed) : Type 0 where
-  pub kept : (v : ℕ) → IsSeen old v → IsSeen new.seen.items v
-  pub only : (v : ℕ) → IsSeen new.seen.items v → IsSeen old v ⊎ Contains variables v
-  pub all : (v : ℕ) → Contains variables v → IsSeen new.seen.items v
-  pub long : length new.seen.items ≡ length old
+  pub kept : (v : ℕ) → IsSeen old v → IsSeen new.seen v
+  pub only : (v : ℕ) → IsSeen new.seen v → IsSeen old v ⊎ Contains variables v
+  pub all : (v : ℕ) → Contains variables v → IsSeen new.seen v
+  pub long : length new.seen ≡ length old
   pub keeps : KeepsAmong (Contains variables) st new
 
 -- some variables, and those from a number on up to another
@@ -92,9 +92,9 @@ pub record WritesSeen (st : StoreView) (first to : ℕ) (old new : Needed) : Typ
 
 -- at the mark over so many others the bindings since then were found of what had been seen
 pub record OpensLevel (st : StoreView) (mark : ℕ) (old : List Bool) (new : Needed) : Type 0 where
-  pub below : SeesBelow st.now.next old new.seen.items
-  pub long : length new.seen.items ≡ length old
-  pub keeps : (m : Moment) → IsMarkedOver st mark m → KeepsSeen (bound_at m) (bound_at st.now) new.seen.items new.bindings
+  pub below : SeesBelow st.now.next old new.seen
+  pub long : length new.seen ≡ length old
+  pub keeps : (m : Moment) → IsMarkedOver st mark m → KeepsSeen (bound_at m) (bound_at st.now) new.seen new.bindings
 
 -- and of what it can reach
 pub record KeepsSince (st : StoreView) (mark : ℕ) (old new : List Bool) (bs : List Binding) : Type 0 where

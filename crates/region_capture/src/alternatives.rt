@@ -10,6 +10,7 @@ use crate::clauses::capture_clauses;
 use crate::items::CapturedItems;
 use crate::levels::bindings_for_choice;
 use crate::positions::capture_items;
+use crate::seen::SeenVariables;
 use crate::solutions::capture_solutions;
 use crate::writing::written_term;
 use au_term::{Bindings, NoMemory, VarNo};
@@ -23,12 +24,12 @@ pub(crate) fn capture_newest(
     region: &mut Region,
     alloc: Global,
     items: &mut CapturedItems,
-    seen: Vec<bool>,
-) -> Result<(CapturedChoice, Vec<bool>), NoMemory>
+    seen: SeenVariables,
+) -> Result<(CapturedChoice, SeenVariables), NoMemory>
     requires many { 1 < length region.old.choices }
     requires own { HasOwnOnTop region.old }
-    requires long { HasNewestBelow region.old (length seen.items) }
-    ensures { IfOk result (λ c. CapturesNewest region.old region.new items.old items.new seen.items c.1.items c.0) }
+    requires long { HasNewestBelow region.old (length seen) }
+    ensures { IfOk result (λ c. CapturesNewest region.old region.new items.old items.new seen c.1 c.0) }
 {
     region.ends_are_oldest();
     let ChoicePoint {

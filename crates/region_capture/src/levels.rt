@@ -8,6 +8,7 @@ ghost use Rattle.region_capture.specs.NeededBindings.{Forgets, KeepsSince, Opens
 use crate::captured::{CapturedAlternative, CapturedKind};
 use crate::items::CapturedItems;
 use crate::needed::{Needed, reach_bindings, reach_items, reach_term, reach_values, write_binding};
+use crate::seen::SeenVariables;
 use au_term::{Bindings, NoMemory};
 use cell_store::Store;
 use std::alloc::Global;
@@ -19,13 +20,13 @@ pub(crate) fn bindings_for_items(
     mark: usize,
     items: &CapturedItems,
     number: u32,
-    seen: Vec<bool>,
-) -> Result<(Bindings, Vec<bool>), NoMemory>
+    seen: SeenVariables,
+) -> Result<(Bindings, SeenVariables), NoMemory>
     requires mark { mark < length store.now.marks }
     requires number { number < length items.now }
-    requires long { store.now.now.next ≤ length seen.items }
-    ensures keeps { IfOk result (λ r. KeepsSince store.now mark seen.items r.1.items r.0) }
-    ensures reached { IfOk result (λ r. ReachesItems store.now.now.next r.1.items items.now number) }
+    requires long { store.now.now.next ≤ length seen }
+    ensures keeps { IfOk result (λ r. KeepsSince store.now mark seen r.1 r.0) }
+    ensures reached { IfOk result (λ r. ReachesItems store.now.now.next r.1 items.now number) }
 {
     let first = store.next_at(mark);
     let mut needed = open_level(store, alloc, mark, seen)?;
@@ -42,14 +43,14 @@ pub(crate) fn bindings_for_choice(
     items: &CapturedItems,
     kind: &CapturedKind,
     alternatives: &[CapturedAlternative],
-    seen: Vec<bool>,
-) -> Result<(Bindings, Vec<bool>), NoMemory>
+    seen: SeenVariables,
+) -> Result<(Bindings, SeenVariables), NoMemory>
     requires mark { mark < length store.now.marks }
     requires numbers { Each (λ a. a.first < length items.now) alternatives.now }
-    requires long { store.now.now.next ≤ length seen.items }
-    ensures keeps { IfOk result (λ r. KeepsSince store.now mark seen.items r.1.items r.0) }
-    ensures kind { IfOk result (λ r. IsKindReached store.now.now.next r.1.items kind.now) }
-    ensures alternatives { IfOk result (λ r. Each (ReachesAlternative store.now.now.next r.1.items items.now) alternatives.now) }
+    requires long { store.now.now.next ≤ length seen }
+    ensures keeps { IfOk result (λ r. KeepsSince store.now mark seen r.1 r.0) }
+    ensures kind { IfOk result (λ r. IsKindReached store.now.now.next r.1 kind.now) }
+    ensures alternatives { IfOk result (λ r. Each (ReachesAlternative store.now.now.next r.1 items.now) alternatives.now) }
 {
     let first = store.next_at(mark);
     let mut needed = open_level(store, alloc, mark, seen)?;
@@ -64,11 +65,11 @@ fn open_level(
     store: &Store,
     alloc: Global,
     mark: usize,
-    seen: Vec<bool>,
+    seen: SeenVariables,
 ) -> Result<Needed, NoMemory>
     requires mark { mark < length store.now.marks }
-    requires long { store.now.now.next ≤ length seen.items }
-    ensures { IfOk result (OpensLevel store.now mark seen.items) }
+    requires long { store.now.now.next ≤ length seen }
+    ensures { IfOk result (OpensLevel store.now mark seen) }
 {
     // The proof reads off that the store is sound.
     let _next = store.next();
@@ -81,12 +82,12 @@ fn open_level(
 }
 
 /// Takes variables for unseen, so that each is written once where it stands twice among them.
-fn forget(variables: &[u32], seen: &mut Vec<bool>)
-    requires { Each (λ v. v < length seen.old.items) variables.now }
-    ensures { Forgets variables.now seen.old.items seen.new.items }
+fn forget(variables: &[u32], seen: &mut SeenVariables)
+    requires { Each (λ v. v < length seen.old) variables.now }
+    ensures { Forgets variables.now seen.old seen.new }
 {
     for variable in variables {
-        seen[*variable as usize] = false;
+        seen.forget(*variable);
     }
 }
 
@@ -95,19 +96,18 @@ fn see_older(
     store: &Store,
     alloc: Global,
     variables: &[u32],
-    seen: Vec<bool>,
+    seen: SeenVariables,
 ) -> Result<Needed, NoMemory>
     requires there { Each (λ v. v < store.now.now.next) variables.now }
-    requires long { store.now.now.next ≤ length seen.items }
-    requires unseen { (v : ℕ) → Contains variables.now v → IsSeen seen.items v → ⊥ }
-    ensures { IfOk result (SeesThese store.now variables.now seen.items) }
+    requires long { store.now.now.next ≤ length seen }
+    requires unseen { (v : ℕ) → Contains variables.now v → IsSeen seen v → ⊥ }
+    ensures { IfOk result (SeesThese store.now variables.now seen) }
 {
     let bindings = Bindings::new(alloc);
     let mut needed = Needed { seen, bindings };
     for variable in variables {
-        let at = *variable as usize;
-        if !needed.seen[at] {
-            needed.seen[at] = true;
+        if !needed.seen.has(*variable) {
+            needed.seen.see(*variable)?;
             write_binding(store, alloc, *variable, &mut needed.bindings)?;
         }
     }
@@ -117,11 +117,11 @@ fn see_older(
 /// Puts the bindings of variables from a number on to the others, of those that were seen.
 fn write_seen(store: &Store, alloc: Global, first: u32, needed: &mut Needed) -> Result<(), NoMemory>
     requires first { first ≤ store.now.now.next }
-    requires long { store.now.now.next ≤ length needed.old.seen.items }
+    requires long { store.now.now.next ≤ length needed.old.seen }
     ensures { OnOk result (WritesSeen store.now first store.now.now.next needed.old needed.new) }
 {
     for variable in first..store.next() {
-        if needed.seen[variable as usize] {
+        if needed.seen.has(variable) {
             write_binding(store, alloc, variable, &mut needed.bindings)?;
         }
     }
@@ -136,9 +136,9 @@ fn reach_kind(
     kind: &CapturedKind,
     needed: &mut Needed,
 ) -> Result<(), NoMemory>
-    requires { store.now.now.next ≤ length needed.old.seen.items }
+    requires { store.now.now.next ≤ length needed.old.seen }
     ensures more { OnOk result (SeesMore store.now first needed.old needed.new) }
-    ensures reached { OnOk result (IsKindReached store.now.now.next needed.new.seen.items kind.now) }
+    ensures reached { OnOk result (IsKindReached store.now.now.next needed.new.seen kind.now) }
 {
     match kind {
         CapturedKind::Choice => Ok(()),
@@ -161,9 +161,9 @@ fn reach_alternatives(
     needed: &mut Needed,
 ) -> Result<(), NoMemory>
     requires numbers { Each (λ a. a.first < length items.now) alternatives.now }
-    requires long { store.now.now.next ≤ length needed.old.seen.items }
+    requires long { store.now.now.next ≤ length needed.old.seen }
     ensures more { OnOk result (SeesMore store.now first needed.old needed.new) }
-    ensures reached { OnOk result (Each (ReachesAlternative store.now.now.next needed.new.seen.items items.now) alternatives.now) }
+    ensures reached { OnOk result (Each (ReachesAlternative store.now.now.next needed.new.seen items.now) alternatives.now) }
 {
     for alternative in alternatives {
         reach_items(store, alloc, first, items, alternative.first, needed)?;

@@ -17,6 +17,7 @@ mod levels;
 mod needed;
 mod positions;
 mod regions;
+mod seen;
 mod solutions;
 mod writing;
 

@@ -6,6 +6,7 @@ ghost use Rattle.region_capture.specs.NeededBindings.{AddsBinding, SeesMore};
 ghost use Rattle.au_model.specs.Terms.Each.{Each};
 
 use crate::items::{CapturedItem, CapturedItems};
+use crate::seen::SeenVariables;
 use crate::writing::written_term;
 use au_term::{Binding, Bindings, Cell, NoMemory, Shared, VarNo};
 use cell_store::Store;
@@ -14,7 +15,7 @@ use std::alloc::Global;
 /// Variables that were seen, by their numbers, and the bindings of those that are bound.
 #[derive(Drop)]
 pub(crate) struct Needed {
-    pub(crate) seen: Vec<bool>,
+    pub(crate) seen: SeenVariables,
     pub(crate) bindings: Bindings,
 }
 
@@ -45,13 +46,12 @@ fn see(
     needed: &mut Needed,
 ) -> Result<(), NoMemory>
     requires there { variable < store.now.now.next }
-    requires long { store.now.now.next ≤ length needed.old.seen.items }
+    requires long { store.now.now.next ≤ length needed.old.seen }
     ensures more { OnOk result (SeesMore store.now first needed.old needed.new) }
-    ensures seen { OnOk result (IsSeen needed.new.seen.items variable) }
+    ensures seen { OnOk result (IsSeen needed.new.seen variable) }
 {
-    let at = variable as usize;
-    if !needed.seen[at] {
-        needed.seen[at] = true;
+    if !needed.seen.has(variable) {
+        needed.seen.see(variable)?;
         if variable >= first {
             write_binding(store, alloc, variable, &mut needed.bindings)?;
         }
@@ -67,9 +67,9 @@ fn see_number(
     variable: VarNo,
     needed: &mut Needed,
 ) -> Result<(), NoMemory>
-    requires { store.now.now.next ≤ length needed.old.seen.items }
+    requires { store.now.now.next ≤ length needed.old.seen }
     ensures more { OnOk result (SeesMore store.now first needed.old needed.new) }
-    ensures reached { OnOk result (IsVariableReached store.now.now.next needed.new.seen.items variable) }
+    ensures reached { OnOk result (IsVariableReached store.now.now.next needed.new.seen variable) }
 {
     if variable < u64::from(store.next()) {
         see(store, alloc, first, variable as u32, needed)?;
@@ -85,9 +85,9 @@ pub(crate) fn reach_term(
     term: &Shared,
     needed: &mut Needed,
 ) -> Result<(), NoMemory>
-    requires { store.now.now.next ≤ length needed.old.seen.items }
+    requires { store.now.now.next ≤ length needed.old.seen }
     ensures more { OnOk result (SeesMore store.now first needed.old needed.new) }
-    ensures reached { OnOk result (AreReachedIn store.now.now.next needed.new.seen.items term.now) }
+    ensures reached { OnOk result (AreReachedIn store.now.now.next needed.new.seen term.now) }
 {
     for at in 0..term.len() {
         let (cell, base) = term.cell_at(at);
@@ -107,9 +107,9 @@ fn reach_item(
     item: &CapturedItem,
     needed: &mut Needed,
 ) -> Result<(), NoMemory>
-    requires { store.now.now.next ≤ length needed.old.seen.items }
+    requires { store.now.now.next ≤ length needed.old.seen }
     ensures more { OnOk result (SeesMore store.now first needed.old needed.new) }
-    ensures reached { OnOk result (IsItemReached store.now.now.next needed.new.seen.items (captured_item item.now)) }
+    ensures reached { OnOk result (IsItemReached store.now.now.next needed.new.seen (captured_item item.now)) }
 {
     match item {
         CapturedItem::Goal { term, .. } => reach_term(store, alloc, first, term, needed),
@@ -128,9 +128,9 @@ pub(crate) fn reach_items(
     needed: &mut Needed,
 ) -> Result<(), NoMemory>
     requires number { number < length items.now }
-    requires long { store.now.now.next ≤ length needed.old.seen.items }
+    requires long { store.now.now.next ≤ length needed.old.seen }
     ensures more { OnOk result (SeesMore store.now first needed.old needed.new) }
-    ensures reached { OnOk result (ReachesItems store.now.now.next needed.new.seen.items items.now number) }
+    ensures reached { OnOk result (ReachesItems store.now.now.next needed.new.seen items.now number) }
 {
     let mut number = number;
     while let Some((item, after)) = items.first(number) {
@@ -148,9 +148,9 @@ pub(crate) fn reach_bindings(
     bindings: &[Binding],
     needed: &mut Needed,
 ) -> Result<(), NoMemory>
-    requires { store.now.now.next ≤ length needed.old.seen.items }
+    requires { store.now.now.next ≤ length needed.old.seen }
     ensures more { OnOk result (SeesMore store.now first needed.old needed.new) }
-    ensures reached { OnOk result (Each (IsBindingReached store.now.now.next needed.new.seen.items) bindings.now) }
+    ensures reached { OnOk result (Each (IsBindingReached store.now.now.next needed.new.seen) bindings.now) }
 {
     for binding in bindings {
         reach_binding(store, alloc, first, binding, needed)?;
@@ -165,9 +165,9 @@ fn reach_binding(
     binding: &Binding,
     needed: &mut Needed,
 ) -> Result<(), NoMemory>
-    requires { store.now.now.next ≤ length needed.old.seen.items }
+    requires { store.now.now.next ≤ length needed.old.seen }
     ensures more { OnOk result (SeesMore store.now first needed.old needed.new) }
-    ensures reached { OnOk result (IsBindingReached store.now.now.next needed.new.seen.items binding.now) }
+    ensures reached { OnOk result (IsBindingReached store.now.now.next needed.new.seen binding.now) }
 {
     see_number(store, alloc, first, binding.var, needed)?;
     reach_term(store, alloc, first, &binding.value, needed)?;
@@ -181,9 +181,9 @@ pub(crate) fn reach_values(
     first: u32,
     needed: &mut Needed,
 ) -> Result<(), NoMemory>
-    requires { store.now.now.next ≤ length needed.old.seen.items }
+    requires { store.now.now.next ≤ length needed.old.seen }
     ensures more { OnOk result (SeesMore store.now first needed.old needed.new) }
-    ensures reached { OnOk result (ReachesValues store.now.now.next needed.new.seen.items needed.new.bindings) }
+    ensures reached { OnOk result (ReachesValues store.now.now.next needed.new.seen needed.new.bindings) }
 {
     let mut at = 0;
     while at < needed.bindings.as_slice().len() {

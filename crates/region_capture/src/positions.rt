@@ -9,6 +9,7 @@ ghost use Rattle.region_capture.specs.NeededBindings.{CapturesCurrent};
 use crate::captured::CapturedAlternative;
 use crate::items::{CapturedItem, CapturedItems};
 use crate::levels::bindings_for_items;
+use crate::seen::SeenVariables;
 use crate::writing::{bindings_since, written_item};
 use au_term::NoMemory;
 use region_split::{Left, Position, Region};
@@ -59,22 +60,23 @@ pub(crate) fn capture_position(
 }
 
 /// What is left at a position, with those bindings since the mark over so many others that it can reach, and those of variables that
-/// were there at the mark; and what it can reach.
+/// were there at the mark; and what it can reach. Those before a floor are few.
 pub(crate) fn capture_current(
     region: &Region,
     alloc: Global,
+    floor: u32,
     mark: usize,
     position: Position,
     items: &mut CapturedItems,
-) -> Result<(CapturedAlternative, Vec<bool>), NoMemory>
+) -> Result<(CapturedAlternative, SeenVariables), NoMemory>
     requires mark { mark < length region.now.choices }
     requires position { IsPositionIn region.now position }
-    ensures { IfOk result (λ c. CapturesCurrent region.now mark position items.old items.new c.0 c.1.items) }
+    ensures { IfOk result (λ c. CapturesCurrent region.now mark position items.old items.new c.0 c.1) }
 {
     region.ends_are_oldest();
     let first = capture_items(region, alloc, position, items)?;
     let store = region.store();
-    let unseen = vec![in alloc; false; store.next() as usize]?;
+    let unseen = SeenVariables::new(alloc, floor, store.next())?;
     let (bindings, seen) = bindings_for_items(store, alloc, mark, items, first, unseen)?;
     let next = u64::from(store.next());
     let current = CapturedAlternative {

@@ -25,7 +25,8 @@ pub fn capture(
     region.ends_are_oldest();
     let mut items = CapturedItems::new(alloc);
     let newest = region.height() - 1;
-    let (current, reached) = capture_current(region, alloc, newest, position, &mut items)?;
+    let start = region.store().next_at(floor as usize - 1);
+    let (current, reached) = capture_current(region, alloc, start, newest, position, &mut items)?;
     let mut seen = reached;
     let mut choices = Vec::new(alloc);
     while region.height() > floor as usize {

@@ -21,7 +21,7 @@ returns c =
     let r = c.take_newest-alternatives.new.self in
     let taken = c.in_ok-kind.alternatives.items in
     let lists = c.capture_group.new.items in
-    let seen = c.in_ok-below.seen.items in
+    let seen = c.in_ok-below.seen in
     let mark = c.height-under.result - 1 in
     let more = c.requires.many in
     let high = c.height-under.ensures in
@@ -29,8 +29,8 @@ returns c =
     let is = c.store-2.ensures.store in
     newest_captured c.args.region.now r c.capture_group.new.region c.take_newest-alternatives.result c.take_newest-alternatives.ensures c.args.items.now lists
     (record { kind = c.in_ok-kind.kind; alternatives = c.in_ok-kind.alternatives; below = c.in_ok-below.below; next = c.from-next.result }) c.in_ok-kind.ensures mark (omega (arith, more, high, long, length-append r.choices (c.take_newest-alternatives.result ∷ [])))
-    c.ends_are_oldest-2.ensures.marks (subst IsValidStore c.store.ensures.store c.next.ensures.sound) c.args.seen.items seen
-    (subst (λ (st : StoreView). KeepsSince st mark c.args.seen.items seen c.in_ok-below.below) is c.in_ok-below.ensures.keeps)
+    c.ends_are_oldest-2.ensures.marks (subst IsValidStore c.store.ensures.store c.next.ensures.sound) c.args.seen seen
+    (subst (λ (st : StoreView). KeepsSince st mark c.args.seen seen c.in_ok-below.below) is c.in_ok-below.ensures.keeps)
     (subst (λ (st : StoreView). IsKindReached st.now.next seen c.in_ok-kind.kind) is c.in_ok-below.ensures.kind)
     (subst (λ (xs : List CapturedAlternative). Each (ReachesAlternative c.capture_group.new.region.store.now.next seen lists) xs) c.deref.ensures.value
     (subst (λ (st : StoreView). Each (ReachesAlternative st.now.next seen lists) c.deref.result.now) is c.in_ok-below.ensures.alternatives))

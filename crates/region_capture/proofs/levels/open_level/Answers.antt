@@ -9,8 +9,8 @@ use Rattle.region_capture.proofs.levels.open_level.Goals as goal
 pub forget-requires : goal.forget-requires
 forget-requires c =
     let st = c.args.store.now in
-    subst (λ (vs : List ℕ). Each (λ v. v < length c.args.seen.items) vs) (sym c.deref.ensures.value)
-    (each-more (λ v. v < st.now.next) (λ v. v < length c.args.seen.items) (λ v lt. let l = c.requires.long in omega (arith, lt, l)) c.in_ok-older.older.items (older_below st c.args.mark c.requires.mark c.in_ok-older.older.items c.in_ok-older.ensures))
+    subst (λ (vs : List ℕ). Each (λ v. v < length c.args.seen) vs) (sym c.deref.ensures.value)
+    (each-more (λ v. v < st.now.next) (λ v. v < length c.args.seen) (λ v lt. let l = c.requires.long in omega (arith, lt, l)) c.in_ok-older.older.items (older_below st c.args.mark c.requires.mark c.in_ok-older.older.items c.in_ok-older.ensures))
 
 pub see_older-requires-clause-there : goal.see_older-requires-clause-there
 see_older-requires-clause-there c =
@@ -29,8 +29,8 @@ pub returns : goal.returns
 returns c =
     let st = c.args.store.now in
     let older = c.in_ok-older.older.items in
-    let start = c.args.seen.items in
-    let unseen = c.forget.new.seen.items in
+    let start = c.args.seen in
+    let unseen = c.forget.new.seen in
     let mid = c.in_ok-needed.needed in
     let end = c.write_seen.new.needed in
     let f = subst (λ (vs : List ℕ). Forgets vs start unseen) c.deref.ensures.value c.forget.ensures in

@@ -23,13 +23,13 @@ loop-alternative-preserved c =
     let one = c.in_ok-reach_items.ensures in
     let two = c.in_ok-reach_bindings.ensures in
     let step = sees_twice st first old mid new one.more two.more in
-    let own : ReachesAlternative next new.seen.items lists a
+    let own : ReachesAlternative next new.seen lists a
     = record {
-      items = reaches_still next mid.seen.items new.seen.items lists a.first two.more.below.kept one.reached;
-      bindings = subst (λ (bs : List Binding). Each (IsBindingReached next new.seen.items) bs) c.as_slice.ensures two.reached;
+      items = reaches_still next mid.seen new.seen lists a.first two.more.below.kept one.reached;
+      bindings = subst (λ (bs : List Binding). Each (IsBindingReached next new.seen) bs) c.as_slice.ensures two.reached;
     } in
     record {
       more = sees_twice st first start old new was.more step;
-      done = each_one_more (ReachesAlternative next new.seen.items lists) all i a c.loop-alternative-test.true (alternatives_still next old.seen.items new.seen.items lists (take i all) step.below.kept was.done)
-          (subst (ReachesAlternative next new.seen.items lists) c.alternative-item.is own);
+      done = each_one_more (ReachesAlternative next new.seen lists) all i a c.loop-alternative-test.true (alternatives_still next old.seen new.seen lists (take i all) step.below.kept was.done)
+          (subst (ReachesAlternative next new.seen lists) c.alternative-item.is own);
     }

@@ -1,8 +1,8 @@
-use Rattle.std.proofs.Common.{◌≡◌, ◌+◌, get_or, take_all, refl, sym, subst}
+use Rattle.std.proofs.Common.{◌+◌, get_or, take_all, sym, subst, ◌∙◌}
 use Rattle.std.specs.List.{Contains}
-use Rattle.region_capture.proofs.LevelLemmas.{SeesTo, got_seen, sees_again, sees_next, within}
+use Rattle.region_capture.proofs.LevelLemmas.{SeesTo, sees_again, sees_next, within}
 use Rattle.region_capture.proofs.levels.see_older.Goals as goal
-use Rattle.region_capture.proofs.levels.see_older.Goals.{then-not-index+in_ok-write_binding, else-not-index}
+use Rattle.region_capture.proofs.levels.see_older.Goals.{then-not-has+in_ok-see+in_ok-write_binding, else-not-has}
 
 pub loop-variable-preserved : goal.loop-variable-preserved
 loop-variable-preserved c =
@@ -10,18 +10,18 @@ loop-variable-preserved c =
     let vs = c.args.variables.now in
     let i = c.loop-variable.variable-index in
     let lt = c.loop-variable-test.true in
-    let start = c.args.seen.items in
+    let start = c.args.seen in
     let old = c.loop-variable.needed in
     let was = c.loop-variable.invariant in
     let v = get_or vs i 0 in
-    elim c.if-not-index.branch [
-      | then-not-index+in_ok-write_binding w ↦
+    elim c.if-not-has.branch [
+      | then-not-has+in_ok-see+in_ok-write_binding w ↦
           subst (SeesTo st vs (i + 1) start) (sym w.needed-is)
-          (sees_next st vs i lt start old _ was (subst (λ x. get_or old.seen.items v x ≡ x) w.if-not-index.true (sym c.index.ensures)) refl
+          (sees_next st vs i lt start old _ was (sym c.has.ensures ∙ w.if-not-has.true) w.in_ok-see.ensures
           (within st vs i lt start old was c.requires.there c.requires.long) w.in_ok-write_binding.ensures)
-      | else-not-index w ↦
+      | else-not-has w ↦
           subst (SeesTo st vs (i + 1) start) (sym w.needed-is)
-          (sees_again st vs i lt start old old was (got_seen old.seen.items v (within st vs i lt start old was c.requires.there c.requires.long) (subst (λ x. get_or old.seen.items v x ≡ x) w.if-not-index.false (sym c.index.ensures))))
+          (sees_again st vs i lt start old old was (sym c.has.ensures ∙ w.if-not-has.false))
     ]
 
 pub returns : goal.returns

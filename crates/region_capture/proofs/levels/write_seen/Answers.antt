@@ -1,9 +1,8 @@
-use Rattle.std.proofs.Common.{◌≡◌, ◌+◌, Bool, Vec, true, false, get_or, length, refl, sym, ap, subst, ◌∙◌, arith}
-use Rattle.std.specs.Global.{Global}
+use Rattle.std.proofs.Common.{◌≡◌, ◌+◌, true, false, get_or, refl, sym, subst, ◌∙◌, arith}
 use Rattle.region_capture.specs.NeededBindings.{WritesSeen}
-use Rattle.region_capture.proofs.LevelLemmas.{got_seen, writes_next, writes_not}
+use Rattle.region_capture.proofs.LevelLemmas.{writes_next, writes_not}
 use Rattle.region_capture.proofs.levels.write_seen.Goals as goal
-use Rattle.region_capture.proofs.levels.write_seen.Goals.{then-index+in_ok-write_binding, else-index}
+use Rattle.region_capture.proofs.levels.write_seen.Goals.{then-has+in_ok-write_binding, else-has}
 
 pub loop-variable-preserved : goal.loop-variable-preserved
 loop-variable-preserved c =
@@ -14,13 +13,13 @@ loop-variable-preserved c =
     let old = c.loop-variable.needed in
     let was = c.loop-variable.invariant in
     let le = c.loop-variable.auto.variable in
-    elim c.if-index.branch [
-      | then-index+in_ok-write_binding w ↦
+    elim c.if-has.branch [
+      | then-has+in_ok-write_binding w ↦
           subst (WritesSeen st first (v + 1) start) (sym w.needed-is)
-          (writes_next st first v le start old _ was refl (got_seen old.seen.items v (let e = c.loop-variable-test.true in let n = c.next-variable-end.ensures.next in let r = c.requires.long in let l = ap (λ (x : Vec Bool Global). length x.items) was.same in omega (arith, e, n, r, l)) (subst (λ x. get_or old.seen.items v x ≡ x) w.if-index.true (sym c.index.ensures))) w.in_ok-write_binding.ensures)
-      | else-index w ↦
+          (writes_next st first v le start old _ was refl (sym c.has.ensures ∙ w.if-has.true) w.in_ok-write_binding.ensures)
+      | else-has w ↦
           subst (WritesSeen st first (v + 1) start) (sym w.needed-is)
-          (writes_not st first v le start old old was refl (λ h. let free : get_or old.seen.items v false ≡ false = subst (λ x. get_or old.seen.items v x ≡ x) w.if-index.false (sym c.index.ensures) in let wrong : false ≡ true = sym free ∙ h in absurd cc) refl)
+          (writes_not st first v le start old old was refl (λ h. let free : get_or old.seen v false ≡ false = sym c.has.ensures ∙ w.if-has.false in let wrong : false ≡ true = sym free ∙ h in absurd cc) refl)
     ]
 
 pub returns : goal.returns

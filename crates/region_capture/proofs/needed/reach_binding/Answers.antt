@@ -13,6 +13,6 @@ pub returns-clause-reached : goal.returns-clause-reached
 returns-clause-reached c =
     let next = c.args.store.now.now.next in
     record {
-      variable = reached_still next c.see_number.new.needed.seen.items c.reach_term.new.needed.seen.items c.args.binding.now.var c.in_ok-reach_term.ensures.more.below.kept c.in_ok-see_number.ensures.reached;
+      variable = reached_still next c.see_number.new.needed.seen c.reach_term.new.needed.seen c.args.binding.now.var c.in_ok-reach_term.ensures.more.below.kept c.in_ok-see_number.ensures.reached;
       value = c.in_ok-reach_term.ensures.reached;
     }

@@ -21,5 +21,5 @@ loop-binding-preserved c =
     let step = c.in_ok-reach_binding.ensures in
     record {
       more = sees_twice st c.args.first c.args.needed.now old new c.loop-binding.invariant.more step.more;
-      done = each_one_more (IsBindingReached next new.seen.items) bs i c.binding-item.result c.loop-binding-test.true (bindings_still next old.seen.items new.seen.items (take i bs) step.more.below.kept c.loop-binding.invariant.done) (subst (IsBindingReached next new.seen.items) c.binding-item.is step.reached);
+      done = each_one_more (IsBindingReached next new.seen) bs i c.binding-item.result c.loop-binding-test.true (bindings_still next old.seen new.seen (take i bs) step.more.below.kept c.loop-binding.invariant.done) (subst (IsBindingReached next new.seen) c.binding-item.is step.reached);
     }

@@ -7,5 +7,5 @@ use Rattle.region_capture.proofs.needed.reach_bindings.Given as goal
 abbrev pub invariant-loop-binding : goal.invariant-loop-binding
 invariant-loop-binding l = record {
   more : SeesMore l.store l.first l.fn.needed l.needed;
-  done : Each (IsBindingReached l.store.now.next l.needed.seen.items) (take l.binding-index l.bindings);
+  done : Each (IsBindingReached l.store.now.next l.needed.seen) (take l.binding-index l.bindings);
 }

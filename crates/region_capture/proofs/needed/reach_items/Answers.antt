@@ -33,11 +33,11 @@ loop-item-preserved c =
     record {
       within = let lt = b.smaller in let l = was.within in omega (arith, lt, l);
       more = sees_twice st c.args.first c.args.needed.now old new was.more step.more;
-      rest = reaches_on st.now.next lists c.loop-item.number c.in-Some.after item b old.seen.items new.seen.items c.args.number step.more.below.kept step.reached was.rest;
+      rest = reaches_on st.now.next lists c.loop-item.number c.in-Some.after item b old.seen new.seen c.args.number step.more.below.kept step.reached was.rest;
     }
 
 pub returns-clause-more : goal.returns-clause-more
 returns-clause-more c = c.loop-item.invariant.more
 
 pub returns-clause-reached : goal.returns-clause-reached
-returns-clause-reached c = reaches_none c.args.store.now.now.next c.loop-item.needed.seen.items c.args.items.now c.args.number c.loop-item.number c.in_default.ensures c.loop-item.invariant.rest
+returns-clause-reached c = reaches_none c.args.store.now.now.next c.loop-item.needed.seen c.args.items.now c.args.number c.loop-item.number c.in_default.ensures c.loop-item.invariant.rest

@@ -7,7 +7,7 @@ abbrev pub invariant-loop-item : goal.invariant-loop-item
 invariant-loop-item l = record {
   within : l.number < length l.items;
   more : SeesMore l.store l.first l.fn.needed l.needed;
-  rest : ReachesFrom l.store.now.next l.needed.seen.items l.items l.fn.number l.number;
+  rest : ReachesFrom l.store.now.next l.needed.seen l.items l.fn.number l.number;
 }
 
 abbrev pub decreases-loop-item : goal.decreases-loop-item

@@ -38,13 +38,13 @@ loop-at-preserved c =
           let step = w.in_ok-see_number-in-Var.ensures.more in
           record {
             more = subst (SeesMore st first c.args.needed.now) (sym w.needed-is) (sees_twice st first c.args.needed.now old new was.more step);
-            done = subst (λ (n : Needed). AreReachedTo next n.seen.items t (at + 1)) (sym w.needed-is)
-                (reached_more t at cell c.cell_at-base.ensures.cell next old.seen.items new.seen.items step.below.kept was.done (λ u e. let both : VarCell v ≡ VarCell u = sym is ∙ e in let same : v ≡ u = cc in subst (IsVariableReached next new.seen.items) same w.in_ok-see_number-in-Var.ensures.reached));
+            done = subst (λ (n : Needed). AreReachedTo next n.seen t (at + 1)) (sym w.needed-is)
+                (reached_more t at cell c.cell_at-base.ensures.cell next old.seen new.seen step.below.kept was.done (λ u e. let both : VarCell v ≡ VarCell u = sym is ∙ e in let same : v ≡ u = cc in subst (IsVariableReached next new.seen) same w.in_ok-see_number-in-Var.ensures.reached));
           }
       | in_default w ↦ record {
         more = subst (SeesMore st first c.args.needed.now) (sym w.needed-is) was.more;
-        done = subst (λ (n : Needed). AreReachedTo next n.seen.items t (at + 1)) (sym w.needed-is)
-            (reached_more t at cell c.cell_at-base.ensures.cell next old.seen.items old.seen.items (λ u h. h) was.done (λ u e. absurd (no_variable_cell base c.cell_at-base.result.0.now u (λ n is. w.in_default.not-Var n is) e)));
+        done = subst (λ (n : Needed). AreReachedTo next n.seen t (at + 1)) (sym w.needed-is)
+            (reached_more t at cell c.cell_at-base.ensures.cell next old.seen old.seen (λ u h. h) was.done (λ u e. absurd (no_variable_cell base c.cell_at-base.result.0.now u (λ n is. w.in_default.not-Var n is) e)));
       }
     ]
 
@@ -56,4 +56,4 @@ returns-clause-reached c =
     let t = c.args.term.now in
     let next = c.args.store.now.now.next in
     let same : c.loop-at.at ≡ length (cells_of t) = let e = c.len-at-end.ensures in let f = c.loop-at-test.false in let g = c.loop-at.auto.at-end in omega (arith, e, f, g) in
-    reached_whole next c.loop-at.needed.seen.items t (subst (AreReachedTo next c.loop-at.needed.seen.items t) same c.loop-at.invariant.done)
+    reached_whole next c.loop-at.needed.seen t (subst (AreReachedTo next c.loop-at.needed.seen t) same c.loop-at.invariant.done)

@@ -5,5 +5,5 @@ use Rattle.region_capture.proofs.needed.reach_term.Given as goal
 abbrev pub invariant-loop-at : goal.invariant-loop-at
 invariant-loop-at l = record {
   more : SeesMore l.store l.first l.fn.needed l.needed;
-  done : AreReachedTo l.store.now.next l.needed.seen.items l.term l.at;
+  done : AreReachedTo l.store.now.next l.needed.seen l.term l.at;
 }

@@ -39,8 +39,8 @@ loop-at-preserved c =
     record {
       within = let l : length new.bindings ≡ length old.bindings + length step.more.more = ap (λ (bs : List Binding). length bs) step.more.added ∙ length-append old.bindings step.more.more in omega (arith, lt, l);
       more = sees_twice st c.args.first c.args.needed.now old new was.more step.more;
-      done = subst (λ (bs : List Binding). ReachesValues st.now.next new.seen.items (take (at + 1) bs)) (sym step.more.added)
-          (values_more st.now.next at old.seen.items new.seen.items old.bindings step.more.more d lt step.more.below.kept (subst (AreReachedIn st.now.next new.seen.items) is step.reached) was.done);
+      done = subst (λ (bs : List Binding). ReachesValues st.now.next new.seen (take (at + 1) bs)) (sym step.more.added)
+          (values_more st.now.next at old.seen new.seen old.bindings step.more.more d lt step.more.below.kept (subst (AreReachedIn st.now.next new.seen) is step.reached) was.done);
     }
 
 pub returns-clause-more : goal.returns-clause-more
@@ -50,4 +50,4 @@ pub returns-clause-reached : goal.returns-clause-reached
 returns-clause-reached c =
     let n = c.loop-at.needed in
     let le : length n.bindings ≤ c.loop-at.at = subst (λ (bs : List Binding). length bs ≤ c.loop-at.at) c.as_slice.ensures c.loop-at-test.false in
-    subst (ReachesValues c.args.store.now.now.next n.seen.items) (take_all c.loop-at.at n.bindings le) c.loop-at.invariant.done
+    subst (ReachesValues c.args.store.now.now.next n.seen) (take_all c.loop-at.at n.bindings le) c.loop-at.invariant.done

@@ -7,7 +7,7 @@ abbrev pub invariant-loop-at : goal.invariant-loop-at
 invariant-loop-at l = record {
   within : l.at ≤ length l.needed.bindings;
   more : SeesMore l.store l.first l.fn.needed l.needed;
-  done : ReachesValues l.store.now.next l.needed.seen.items (take l.at l.needed.bindings);
+  done : ReachesValues l.store.now.next l.needed.seen (take l.at l.needed.bindings);
 }
 
 abbrev pub decreases-loop-at : goal.decreases-loop-at

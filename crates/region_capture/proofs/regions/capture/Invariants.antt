@@ -5,7 +5,7 @@ use Rattle.region_capture.proofs.regions.capture.Given as goal
 
 abbrev pub invariant-loop-alloc : goal.invariant-loop-alloc
 invariant-loop-alloc l = record {
-  captured : CapturesDownTo l.fn.region l.region l.floor l.items l.choices.items l.fn.position l.current.bindings l.seen.items;
+  captured : CapturesDownTo l.fn.region l.region l.floor l.items l.choices.items l.fn.position l.current.bindings l.seen;
   adds : AddsItems l.initial.items l.items;
 }
 
